@@ -1,0 +1,118 @@
+-- Document 01, 'Examples to settle the reading': P1 to P12, each through bytes. What stands here is 01's text; proofs/Hold.antt holds the definitions to it.
+use Prim.Native.Nat.{ℕ, zero, suc, _+_, _*_}
+use mathlib.Core.List.{List, [], _∷_, _++_}
+use lib.ListN.{length, replicate}
+use Rattle.convention.specs.Numbers.{Said, refusal, stateLimit, argumentLimit, placingSays, judgingSays}
+use Rattle.convention.specs.Tables.{tableNo}
+use Rattle.convention.specs.Lists.{recordLength}
+use Rattle.convention.specs.Rules.{placeByRules, rulesMemory}
+use Rattle.convention.specs.Judged.{Verdict, verdictByTrying}
+
+-- A case: a sheet's bytes and a list to place by its rules, or a table's bytes to judge.
+pub data Given : Type 0 where
+  place : List ℕ → List ℕ → Given
+  judge : List ℕ → Given
+
+-- What comes of it: what is said in 01's numbers, and the bytes: the lent memory after placing, or the list of a verdict.
+pub record Outcome : Type 0 where
+  pub said : Said
+  pub bytes : List ℕ
+
+-- Lent memory of the needed room; each byte holds 255 before.
+abbrev pub lent : List ℕ → List ℕ
+lent ks = replicate (recordLength * length ks) 255
+
+-- A table that cannot be read is refused; any other gets its verdict.
+abbrev pub judged : ℕ → Verdict → Outcome
+judged zero verdict = record { said = judgingSays (verdict .answer); bytes = verdict .list }
+judged (suc number) verdict = record { said = refusal (suc number); bytes = [] }
+
+unfoldable pub comesOf : Given → Outcome
+comesOf (place s ks) = record {
+  said = placingSays (placeByRules argumentLimit s ks (length (lent ks)));
+  bytes = rulesMemory argumentLimit s ks (lent ks);
+}
+comesOf (judge t) = judged (tableNo stateLimit t) (verdictByTrying t)
+
+-- Sheet S: its head, char and int, and then double, whose bytes some cases change. The length counts the bytes after it.
+abbrev pub withDouble : ℕ → List ℕ → List ℕ
+withDouble len double =
+    0x00 ∷ len ∷ 0x01 ∷ 0x04 ∷ 0x04 ∷ 0x08 ∷ 0x03
+    ∷ 0x01 ∷ 0x01 ∷ 0x01 ∷ 0x04 ∷ 0x00 ∷ 0x01 ∷ 0x02 ∷ 0x03
+    ∷ 0x04 ∷ 0x04 ∷ 0x01 ∷ 0x04 ∷ 0x00 ∷ 0x01 ∷ 0x02 ∷ 0x03
+    ∷ double
+
+-- S itself; double closing (flags 3); double without stack (flags 0); double with starts 0 and 2, flags 3.
+abbrev pub simple : List ℕ
+simple = withDouble 0x1C (0x08 ∷ 0x08 ∷ 0x01 ∷ 0x03 ∷ 0x00 ∷ 0x01 ∷ 0x02 ∷ [])
+
+abbrev pub closingDouble : List ℕ
+closingDouble = withDouble 0x1C (0x08 ∷ 0x08 ∷ 0x03 ∷ 0x03 ∷ 0x00 ∷ 0x01 ∷ 0x02 ∷ [])
+
+abbrev pub stacklessDouble : List ℕ
+stacklessDouble = withDouble 0x1C (0x08 ∷ 0x08 ∷ 0x00 ∷ 0x03 ∷ 0x00 ∷ 0x01 ∷ 0x02 ∷ [])
+
+abbrev pub evenDouble : List ℕ
+evenDouble = withDouble 0x1B (0x08 ∷ 0x08 ∷ 0x03 ∷ 0x02 ∷ 0x00 ∷ 0x02 ∷ [])
+
+-- 'n = 1, w = A = 4, one kind (4, 4), one state', with one transition.
+abbrev pub oneTransition : ℕ → ℕ → ℕ → ℕ → List ℕ
+oneTransition form a b next = 0x00 ∷ 0x0C ∷ 0x01 ∷ 0x01 ∷ 0x04 ∷ 0x04 ∷ 0x01 ∷ 0x04 ∷ 0x04 ∷ 0x01 ∷ form ∷ a ∷ b ∷ next ∷ []
+
+-- char, int and double are kinds 0, 1 and 2.
+abbrev pub char : ℕ
+char = 0
+
+abbrev pub int : ℕ
+int = 1
+
+abbrev pub double : ℕ
+double = 2
+
+-- The six bytes of a record whose register or offset fits one byte.
+abbrev pub inRegisters : ℕ → ℕ → List ℕ
+inRegisters first count = 1 ∷ 0 ∷ 0 ∷ 0 ∷ first ∷ count ∷ []
+
+abbrev pub onStack : ℕ → ℕ → List ℕ
+onStack offset count = 2 ∷ 0 ∷ 0 ∷ 0 ∷ offset ∷ count ∷ []
+
+-- Success with so many arguments and the final p; a refusal at a position, lent memory untouched; a verdict.
+abbrev pub placed : ℕ → ℕ → List ℕ → Outcome
+placed count p bytes = record { said = record { number = 0; fault = 0; count = count; value = p }; bytes = bytes }
+
+abbrev pub refused : ℕ → ℕ → ℕ → List ℕ → Outcome
+refused number position fault ks = record { said = record { number = number; fault = fault; count = position; value = 0 }; bytes = lent ks }
+
+abbrev pub clean : Outcome
+clean = record { said = record { number = 0; fault = 0; count = 0; value = 0 }; bytes = [] }
+
+abbrev pub goesWrong : ℕ → List ℕ → Outcome
+goesWrong fault list = record { said = record { number = 0; fault = fault; count = length list; value = 0 }; bytes = list }
+
+-- One line of the table of cases.
+pub record Case : Type 0 where
+  pub given : Given
+  pub says : Outcome
+
+infix 5 _⟹_
+abbrev pub _⟹_ : Given → Outcome → Case
+_⟹_ given says = record { given = given; says = says }
+
+-- P1 to P12, in order.
+abbrev pub cases : List Case
+cases =
+    (place simple [] ⟹ placed 0 0 [])
+    ∷ (place simple (char ∷ int ∷ int ∷ double ∷ []) ⟹ placed 4 8 (inRegisters 0 1 ++ (inRegisters 1 1 ++ (inRegisters 2 1 ++ onStack 0 8))))
+    ∷ (place simple (double ∷ double ∷ char ∷ int ∷ []) ⟹ placed 4 8 (inRegisters 0 2 ++ (inRegisters 2 2 ++ (onStack 0 1 ++ onStack 4 4))))
+    ∷ (place simple (char ∷ int ∷ int ∷ double ∷ int ∷ [])
+    ⟹ placed 5 8 (inRegisters 0 1 ++ (inRegisters 1 1 ++ (inRegisters 2 1 ++ (onStack 0 8 ++ inRegisters 3 1)))))
+    ∷ (place closingDouble (char ∷ int ∷ int ∷ double ∷ int ∷ [])
+    ⟹ placed 5 12 (inRegisters 0 1 ++ (inRegisters 1 1 ++ (inRegisters 2 1 ++ (onStack 0 8 ++ onStack 8 4)))))
+    ∷ (place stacklessDouble (char ∷ double ∷ double ∷ []) ⟹ refused 10 2 1 (char ∷ double ∷ double ∷ []))
+    ∷ (place evenDouble (int ∷ double ∷ int ∷ []) ⟹ placed 3 4 (inRegisters 0 1 ++ (inRegisters 2 2 ++ onStack 0 4)))
+    ∷ (judge (oneTransition 1 0 1 0) ⟹ goesWrong 2 (0 ∷ 0 ∷ []))
+    ∷ (judge (oneTransition 2 0 4 0) ⟹ clean)
+    ∷ (judge (oneTransition 2 0 3 0) ⟹ goesWrong 3 (0 ∷ []))
+    ∷ (judge (oneTransition 2 2 4 0) ⟹ goesWrong 4 (0 ∷ []))
+    ∷ (judge (oneTransition 2 2 3 0) ⟹ goesWrong 3 (0 ∷ []))
+    ∷ []

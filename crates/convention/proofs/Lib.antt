@@ -1,0 +1,3 @@
+pub mod Offsets
+pub mod Bytes
+pub mod Numbers

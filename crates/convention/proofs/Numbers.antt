@@ -1,0 +1,57 @@
+-- Laws of answer numbers: what a chain of tests, one test and one field tell of a number, and what a number tells of them.
+use Prim.Native.Nat.{ℕ, zero, suc, _≤_, _<_}
+use mathlib.Core.Path.{_≡_, refl}
+use mathlib.Core.Bool.{Bool, true, false}
+use mathlib.Core.List.{List}
+use native.Mathlib.Nat.{suc-ne-zero}
+use native.Mathlib.Omega.{arith}
+use lib.Dec.{ltb}
+use lib.ListN.{length}
+use borrow.Author.Tests.{ltb-true, lt-ltb, le-ltb}
+use Rattle.convention.specs.Numbers.{orElse, unless, reading, readingNo}
+use Rattle.convention.specs.Fields.{fieldNo}
+
+-- Two tests in order: no number is given exactly where both pass; the first that fails gives the number.
+pub or-zero : (a b : ℕ) → orElse a b ≡ 0 → (a ≡ 0) × (b ≡ 0)
+or-zero zero b e = (refl, e)
+or-zero (suc a) b e = absurd (suc-ne-zero a e)
+
+pub or-here : (a b : ℕ) → 0 < a → orElse a b ≡ a
+or-here zero b h = absurd (omega arith)
+or-here (suc a) b h = refl
+
+pub or-on : (a b : ℕ) → a ≡ 0 → orElse a b ≡ b
+or-on a b e = rw e
+
+pub or-assoc : (a b c : ℕ) → orElse (orElse a b) c ≡ orElse a (orElse b c)
+or-assoc zero b c = refl
+or-assoc (suc a) b c = refl
+
+-- One test: it passes exactly where it gives no number.
+pub unless-zero : (b : Bool) (n : ℕ) → 0 < n → unless b n ≡ 0 → b ≡ true
+unless-zero true n h e = refl
+unless-zero false n h e = absurd (omega arith)
+
+pub unless-true : (b : Bool) (n : ℕ) → b ≡ true → unless b n ≡ 0
+unless-true b n e = rw e
+
+pub unless-false : (b : Bool) (n : ℕ) → b ≡ false → unless b n ≡ n
+unless-false b n e = rw e
+
+-- One field: 3 where its byte is missing, else what the test of its value gives.
+pub field-zero : (s : List ℕ) (k : ℕ) (right : Bool) (wrong : ℕ) → 0 < wrong → fieldNo s k right wrong ≡ 0
+    → (k < length s) × (right ≡ true)
+field-zero s k right wrong h e =
+    let both = or-zero (unless (ltb k (length s)) 3) (unless right wrong) e in
+    (ltb-true k (length s) (unless-zero (ltb k (length s)) 3 (omega arith) (both .0)), unless-zero right wrong h (both .1))
+
+pub field-missing : (s : List ℕ) (k : ℕ) (right : Bool) (wrong : ℕ) → length s ≤ k → fieldNo s k right wrong ≡ 3
+field-missing s k right wrong h = rw (le-ltb k (length s) h)
+
+pub field-here : (s : List ℕ) (k : ℕ) (right : Bool) (wrong : ℕ) → k < length s → fieldNo s k right wrong ≡ unless right wrong
+field-here s k right wrong h = rw (lt-ltb k (length s) h)
+
+-- An answer of reading carries the number that it was made from.
+pub reading-no : (n : ℕ) → readingNo (reading n) ≡ n
+reading-no zero = refl
+reading-no (suc n) = refl

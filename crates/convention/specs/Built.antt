@@ -1,0 +1,112 @@
+-- Document 01, 'The built table'.
+use Prim.Native.Nat.{ℕ, zero, suc, _+_, _%_}
+use mathlib.Core.Bool.{Bool, true, false, _&&_, Bool·beq}
+use mathlib.Core.List.{List, [], _∷_, _++_}
+use lib.Dec.{ltb, leb, eqb}
+use lib.ListN.{length, drop}
+use Rattle.convention.specs.declared.Placement.{Placement}
+use Rattle.convention.specs.declared.Placement.the-variants.{Registers, Stack, Nowhere}
+use Rattle.convention.specs.declared.Sheet.{Sheet}
+use Rattle.convention.specs.declared.Allocation.{Allocation}
+use Rattle.convention.specs.declared.ByRules.{ByRules}
+use Rattle.convention.specs.declared.Building.{Building}
+use Rattle.convention.specs.declared.Building.the-variants.{Built}
+use Rattle.convention.specs.Numbers.{orElse, unless}
+use Rattle.convention.specs.Bytes.{twoBytes, blocks}
+use Rattle.convention.specs.Sheets.{sheetKind, sheetNo, sheetOf}
+use Rattle.convention.specs.Rules.{noRegisters, byRules}
+use Rattle.convention.specs.Explored.{Automaton, Entry, entry, number, met}
+use Rattle.convention.specs.Lists.{Steps}
+
+-- 'An allocation state is the set of unavailable registers with p mod A': the one in which placing by the rules stands.
+abbrev pub allocation : ℕ → ByRules → Allocation
+allocation modulus s = record { unavailable = s .unavailable; remainder = s .p .0 % modulus }
+
+-- The rules go on from an allocation state as from p = its remainder.
+abbrev pub fromAllocation : Allocation → ByRules
+fromAllocation a = record { unavailable = a .unavailable; p = record { 0 = a .remainder } }
+
+-- Two allocation states are the same flag by flag, with the same remainder.
+unfoldable pub sameFlags : List Bool → List Bool → Bool
+sameFlags [] [] = true
+sameFlags [] (y ∷ ys) = false
+sameFlags (x ∷ xs) [] = false
+sameFlags (x ∷ xs) (y ∷ ys) = Bool·beq x y && sameFlags xs ys
+
+abbrev pub sameAllocation : Allocation → Allocation → Bool
+sameAllocation a b = eqb (a .remainder) (b .remainder) && sameFlags (a .unavailable) (b .unavailable)
+
+-- 'State 0 is the empty set with 0.' A kind leads on where the rules find a place: 'no-place steps lead nowhere'.
+abbrev pub allocations : Sheet → Automaton
+allocations sheet = record {
+  Node = Allocation;
+  same = sameAllocation;
+  start = record { unavailable = noRegisters; remainder = 0 };
+  kinds = sheet .head .kinds;
+  goes = λ a k. eqb (byRules sheet .fault (fromAllocation a) k) 0;
+  next = λ a k. allocation (sheet .head .modulus) (byRules sheet .after (fromAllocation a) k);
+}
+
+-- A transition's bytes: form, a, b, next. On the stack a is the residue, the offset's remainder by A.
+abbrev pub transitionBytes : ℕ → Placement → ℕ → List ℕ
+transitionBytes modulus (Registers first count) next = 1 ∷ first .0 ∷ count ∷ next ∷ []
+transitionBytes modulus (Stack offset count) next = 2 ∷ offset .0 % modulus ∷ count ∷ next ∷ []
+transitionBytes modulus Nowhere next = 0 ∷ 0 ∷ 0 ∷ 0 ∷ []
+
+-- Where kind k goes from an allocation state; l holds the states met.
+unfoldable pub builtTransition : (sheet : Sheet) → List (Entry (allocations sheet)) → Allocation → ℕ → List ℕ
+builtTransition sheet l a k =
+    transitionBytes (sheet .head .modulus) (byRules sheet .place (fromAllocation a) k) (number (allocations sheet) l (allocations sheet .next a k))
+
+-- 'for each state a row of m transitions', in the order of numbers and of kinds.
+unfoldable pub builtRow : (sheet : Sheet) → List (Entry (allocations sheet)) → ℕ → List ℕ
+builtRow sheet l i = blocks (builtTransition sheet l (entry (allocations sheet) l i .node)) (sheet .head .kinds)
+
+-- 'The kinds' sizes and alignments are copied.'
+abbrev pub builtKind : Sheet → ℕ → List ℕ
+builtKind sheet k = sheetKind sheet k .size ∷ sheetKind sheet k .alignment ∷ []
+
+-- What follows the length: version, head, kinds, N, rows.
+unfoldable pub builtBody : (sheet : Sheet) → List (Entry (allocations sheet)) → List ℕ
+builtBody sheet l =
+    1 ∷ sheet .head .registers ∷ sheet .head .width ∷ sheet .head .modulus ∷ sheet .head .kinds
+    ∷ (blocks (builtKind sheet) (sheet .head .kinds) ++ (length l ∷ blocks (builtRow sheet l) (length l)))
+
+-- The table whose states are the entries of l.
+abbrev pub behindLength : List ℕ → List ℕ
+behindLength body = twoBytes (length body) ++ body
+
+unfoldable pub tableOfStates : (sheet : Sheet) → List (Entry (allocations sheet)) → List ℕ
+tableOfStates sheet l = behindLength (builtBody sheet l)
+
+-- 'Only states that some list of kinds reaches by the rules count': all of them, where there are no more than the limit.
+abbrev pub builtStates : ℕ → (sheet : Sheet) → List (Entry (allocations sheet))
+builtStates limit sheet = met (allocations sheet) limit
+
+-- The built table.
+abbrev pub builtTable : ℕ → Sheet → List ℕ
+builtTable limit sheet = tableOfStates sheet (builtStates limit sheet)
+
+-- Number 11: 'lists of the sheet's kinds reach more than 200 allocation states'. Going through as many as the limit meets one more.
+abbrev pub statesNumber : ℕ → Sheet → ℕ
+statesNumber limit sheet = unless (leb (length (builtStates limit sheet)) limit) 11
+
+-- 'Building: 11, 12', behind the number that reading the sheet gave.
+unfoldable pub buildNo : ℕ → List ℕ → ℕ → ℕ
+buildNo limit s room =
+    orElse (sheetNo s) (orElse (statesNumber limit (sheetOf s)) (unless (leb (length (builtTable limit (sheetOf s))) room) 12))
+
+-- 'Building answers N and the table's length, writes the table and leaves the bytes behind it.'
+abbrev pub buildAnswer : ℕ → ℕ → ℕ → Building
+buildAnswer zero n len = Built n len
+buildAnswer (suc number) n len = Building.Refused (suc number)
+
+unfoldable pub build : ℕ → List ℕ → ℕ → Building
+build limit s room = buildAnswer (buildNo limit s room) (length (builtStates limit (sheetOf s))) (length (builtTable limit (sheetOf s)))
+
+abbrev pub buildWrites : ℕ → List ℕ → List ℕ → List ℕ
+buildWrites zero table out = table ++ drop (length table) out
+buildWrites (suc number) table out = out
+
+unfoldable pub buildMemory : ℕ → List ℕ → List ℕ → List ℕ
+buildMemory limit s out = buildWrites (buildNo limit s (length out)) (builtTable limit (sheetOf s)) out

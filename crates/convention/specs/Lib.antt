@@ -1,0 +1,15 @@
+pub mod Numbers
+pub mod Bytes
+pub mod Fields
+pub mod Sheets
+pub mod Tables
+pub mod Offsets
+pub mod Lists
+pub mod Rules
+pub mod Walked
+pub mod Orders
+pub mod Explored
+pub mod Built
+pub mod Judged
+pub mod Program
+pub mod Promised
