@@ -1,3 +1,10 @@
 pub mod Offsets
 pub mod Bytes
 pub mod Numbers
+pub mod Lists
+pub mod Sheets
+pub mod Filled
+pub mod Tables
+pub mod Shortlex
+pub mod Pigeonhole
+pub mod Exploring

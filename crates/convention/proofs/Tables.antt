@@ -1,0 +1,199 @@
+-- Laws of reading a table and of asking for a row: what is promised, where the number is 0, of fields, of transitions and of the row's part.
+use Prim.Native.Nat.{ℕ, zero, suc, _+_, _*_, _≤_, _<_}
+use mathlib.Core.Path.{_≡_, refl}
+use mathlib.Core.Logic.{inl, inr}
+use mathlib.Core.Bool.{Bool, true, _&&_, cond, and-eq-true-iff}
+use mathlib.Core.List.{List}
+use native.Mathlib.Nat.{add-assoc, mul-assoc, mul-le-mul-left, le-refl, le-of-eq, eq-zero-or-pos}
+use native.Mathlib.Decide.{decLe}
+use native.Mathlib.Omega.{arith}
+use lib.Dec.{ltb, leb, eqb, lit<}
+use lib.ListN.{length, getD, take, drop, length-take, length-drop, List·getD-append}
+use lib.Seq.{getD-take, getD-drop}
+use borrow.Author.Tests.{ltb-true, leb-true, eqb-true, ne-eqb}
+use Rattle.convention.specs.declared.Head.{Head}
+use Rattle.convention.specs.declared.TableKind.{TableKind}
+use Rattle.convention.specs.declared.Transition.{Transition}
+use Rattle.convention.specs.Numbers.{readingNo}
+use Rattle.convention.specs.Fields.{kindsAt, headOf, headNo, openingNo, shapeNo}
+use Rattle.convention.specs.Tables.{tableKindLength, tableKindOf, tableKindsNo, tableKindsOf, statesAt, statesOf, statesNo}
+use Rattle.convention.specs.Tables.{transitionOf, isTransition, transitionNo, transitionsNo, rowsAt, rowLength, rowAt}
+use Rattle.convention.specs.Tables.{tableNo, blankTableKind, tableOf, readTable, transition, rowNo, row}
+use Rattle.convention.specs.Promised.{ShapeRead, TableRead}
+use Rattle.convention.proofs.Numbers.{or-zero, unless-zero, field-zero, reading-no}
+use Rattle.convention.proofs.Sheets.{fields-zero, behind-count, behind-read, filled-length, head-read, opening-head, shape-read}
+
+-- The part of a transition's test that speaks of its place.
+abbrev placeRight : Head → Transition → Bool
+placeRight h x = cond (eqb (x .form) 1) (leb (x .a + x .b) (h .registers)) (eqb (x .form) 2 && ltb (x .a) (h .modulus))
+
+module _ (h : Head) (states : ℕ) (x : Transition) (e : isTransition h states x ≡ true) where
+  transition-place : 0 < x .form → (placeRight h x ≡ true) × (ltb (x .next) states ≡ true)
+  transition-place f = and-eq-true-iff (placeRight h x) (ltb (x .next) states) .0 (rw (ne-eqb (x .form) 0 (omega arith)) at e)
+
+  -- A transition as 01 allows it: its form; no place; registers; stack; the next state.
+  pub transition-form : x .form ≤ 2
+  transition-form =
+      elim (decLe (x .form) 1) [
+        | yes l ↦ omega arith
+        | no l ↦
+            let stack = and-eq-true-iff _ _ .0 (rw (ne-eqb (x .form) 1 (omega arith)) at (transition-place (omega arith) .0)) in
+            le-of-eq (eqb-true (x .form) 2 (stack .0))
+      ]
+
+  pub transition-none : x .form ≡ 0 → (x .a ≡ 0) × (x .b ≡ 0) × (x .next ≡ 0)
+  transition-none f =
+      let c = and-eq-true-iff _ _ .0 (rw f at e) in
+      let b = and-eq-true-iff _ _ .0 (c .0) in
+      (eqb-true _ 0 (b .0), eqb-true _ 0 (b .1), eqb-true _ 0 (c .1))
+
+  pub transition-registers : x .form ≡ 1 → x .a + x .b ≤ h .registers
+  transition-registers f = leb-true _ _ (rw f at (transition-place (omega arith) .0))
+
+  pub transition-residue : x .form ≡ 2 → x .a < h .modulus
+  transition-residue f = ltb-true _ _ (rw f at (transition-place (omega arith) .0))
+
+  pub transition-next : 0 < states → x .next < states
+  transition-next some =
+      elim (eq-zero-or-pos (x .form)) [
+        | inl f ↦ omega (arith, transition-none f .2)
+        | inr f ↦ ltb-true _ _ (transition-place f .1)
+      ]
+
+-- The kinds: how many, and each with its values.
+pub table-kinds-count : (s : List ℕ) (left : ℕ) → length (tableKindsOf s left) ≡ left
+unfolding tableKindsOf
+table-kinds-count = behind-count (λ s. tableKindLength) tableKindOf tableKindsOf (λ s. refl) (λ s left. refl)
+
+pub table-kinds-read : (h : Head) (s : List ℕ) (left : ℕ) → tableKindsNo h s left ≡ 0
+    → (i : ℕ) → i < left → (d : TableKind)
+    → ShapeRead h (getD (tableKindsOf s left) i d .size) (getD (tableKindsOf s left) i d .alignment)
+unfolding tableKindsNo tableKindsOf tableKindOf
+table-kinds-read h =
+    behind-read (λ s. tableKindLength) tableKindOf tableKindsOf (λ s. refl) (λ s left. refl)
+    (shapeNo h) (tableKindsNo h) (λ s left. refl) (λ kind. ShapeRead h (kind .size) (kind .alignment)) (shape-read h)
+
+-- The transitions: each is there and as 01 allows it; and so the last one's end is within the bytes.
+pub transitions-read : (h : Head) (states : ℕ) (t : List ℕ) (at left : ℕ) → transitionsNo h states t at left ≡ 0
+    → (i : ℕ) → i < left → (at + 4 * i + 4 ≤ length t) × (isTransition h states (transitionOf t (at + 4 * i)) ≡ true)
+unfolding transitionsNo transitionNo
+transitions-read h states t at left e i l =
+    let passed = fields-zero 4 (transitionNo h states t) (transitionsNo h states t) (λ at left. refl) at left e i l in
+    let both = or-zero _ _ passed in
+    (leb-true _ _ (unless-zero _ 3 (lit< tt) (both .0)), unless-zero _ 7 (lit< tt) (both .1))
+
+pub transitions-end : (h : Head) (states : ℕ) (t : List ℕ) (at left : ℕ) → transitionsNo h states t at left ≡ 0
+    → at ≤ length t → at + 4 * left ≤ length t
+transitions-end h states t at zero e l = omega arith
+transitions-end h states t at (suc left) e l = omega (arith, transitions-read h states t at (suc left) e left (le-refl (suc left)) .0)
+
+-- What a table's tests say, one by one.
+record TableTests (limit : ℕ) (t : List ℕ) : Type 0 where
+  head : headNo t ≡ 0
+  kinds : tableKindsNo (headOf t) (drop kindsAt t) (headOf t .kinds) ≡ 0
+  there : statesAt (headOf t .kinds) < length t
+  some : 1 ≤ statesOf t
+  states : statesOf t ≤ limit
+  transitions : transitionsNo (headOf t) (statesOf t) t (rowsAt (headOf t .kinds)) (headOf t .kinds * statesOf t) ≡ 0
+  end : length t ≤ rowAt (headOf t .kinds) (statesOf t)
+
+module _ (limit : ℕ) (t : List ℕ) (e : tableNo limit t ≡ 0) where
+  table-tests : TableTests limit t
+  unfolding tableNo
+  table-tests =
+      let a = or-zero (openingNo t) _ e in
+      let b = or-zero (tableKindsNo (headOf t) (drop kindsAt t) (headOf t .kinds)) _ (a .1) in
+      let c = or-zero (statesNo limit t) _ (b .1) in
+      let d = or-zero (transitionsNo (headOf t) (statesOf t) t (rowsAt (headOf t .kinds)) (headOf t .kinds * statesOf t)) _ (c .1) in
+      let field = field-zero t (statesAt (headOf t .kinds)) _ 4 (lit< tt) (c .0) in
+      let states = and-eq-true-iff _ _ .0 (field .1) in
+      record {
+        head = opening-head t (a .0);
+        kinds = b .0;
+        there = field .0;
+        some = leb-true 1 _ (states .0);
+        states = leb-true _ limit (states .1);
+        transitions = d .0;
+        end = leb-true _ _ (unless-zero _ 6 (lit< tt) (d .1));
+      }
+
+  -- Its bytes end where its last row does.
+  table-whole : length t ≡ rowAt (headOf t .kinds) (statesOf t)
+  table-whole =
+      let m = headOf t .kinds in
+      let first : rowsAt m ≤ length t = omega (arith, table-tests .there) in
+      let rows = transitions-end (headOf t) (statesOf t) t (rowsAt m) (m * statesOf t) (table-tests .transitions) first in
+      omega (arith, table-tests .end, rows, mul-assoc 4 m (statesOf t))
+
+  -- Transition k of row `state` is number m * state + k of all.
+  table-transition : (state k : ℕ) → state < statesOf t → k < headOf t .kinds
+      → isTransition (headOf t) (statesOf t) (transitionOf t (rowAt (headOf t .kinds) state + 4 * k)) ≡ true
+  table-transition state k l below =
+      let m = headOf t .kinds in
+      let place : rowsAt m + 4 * (m * state + k) ≡ rowAt m state + 4 * k = omega (arith, mul-assoc 4 m state) in
+      let within : m * state + k < m * statesOf t = omega (arith, mul-le-mul-left m l) in
+      let each = transitions-read (headOf t) (statesOf t) t (rowsAt m) (m * statesOf t) (table-tests .transitions) in
+      rw place at (each (m * state + k) within .1)
+
+  -- The table has the values that 01 allows.
+  pub table-read : TableRead limit (tableOf t) t
+  unfolding tableOf
+  table-read =
+      let head = head-read t (table-tests .head) in
+      let kinds = tableKindsOf (drop kindsAt t) (headOf t .kinds) in
+      let count = table-kinds-count (drop kindsAt t) (headOf t .kinds) in
+      record {
+        head = head;
+        eight = filled-length kinds (headOf t .kinds) 8 blankTableKind count (head .kinds);
+        kind = λ k l.
+            rw (List·getD-append kinds _ _ k (omega (arith, count)))
+            (table-kinds-read (headOf t) (drop kindsAt t) (headOf t .kinds) (table-tests .kinds) k l _);
+        some = table-tests .some;
+        states = table-tests .states;
+        whole = table-whole;
+        transition = table-transition;
+      }
+
+-- The reader's answer: the number, and the table where it is 0.
+pub table-number : (limit : ℕ) (t : List ℕ) → readingNo (readTable limit t .reading) ≡ tableNo limit t
+unfolding readTable
+table-number limit t = reading-no (tableNo limit t)
+
+pub table-given : (limit : ℕ) (t : List ℕ) → tableNo limit t ≡ 0 → readTable limit t .table ≡ tableOf t
+unfolding readTable
+table-given limit t e = rw e
+
+module _ (limit : ℕ) (t : List ℕ) (state : ℕ) (e : rowNo limit t state ≡ 0) where
+  row-tests : (tableNo limit t ≡ 0) × (state < statesOf t)
+  unfolding rowNo
+  row-tests =
+      let both = or-zero (tableNo limit t) _ e in
+      (both .0, ltb-true state (statesOf t) (unless-zero _ 13 (lit< tt) (both .1)))
+
+  -- A row that is given: it lies within the table's bytes, has four bytes a kind, and is not empty.
+  pub row-part : rowAt (headOf t .kinds) state + rowLength (headOf t .kinds) ≤ length t
+  row-part = omega (arith, table-whole limit t (row-tests .0), mul-le-mul-left (rowLength (headOf t .kinds)) (row-tests .1))
+
+  pub row-is : row limit t state ≡ take (rowLength (headOf t .kinds)) (drop (rowAt (headOf t .kinds) state) t)
+  unfolding row
+  row-is = rw e
+
+  pub row-length : length (row limit t state) ≡ 4 * headOf t .kinds
+  row-length = rw (row-is, length-take, length-drop) (omega (arith, row-part))
+
+  pub row-some : 0 < length (row limit t state)
+  row-some = omega (arith, row-length, head-read t (table-tests limit t (row-tests .0) .head) .some)
+
+  -- Its bytes are the table's, and so are its transitions.
+  row-byte : (i : ℕ) → i < 4 * headOf t .kinds → getD (row limit t state) i 0 ≡ getD t (rowAt (headOf t .kinds) state + i) 0
+  row-byte i l = rw (row-is, getD-take, getD-drop)
+
+  pub row-transition : (k : ℕ) → k < headOf t .kinds → transitionOf (row limit t state) (4 * k) ≡ transition (tableOf t) t state k
+  unfolding tableOf
+  row-transition k l =
+      rw (
+        row-byte (4 * k) (omega arith),
+        row-byte (4 * k + 1) (omega arith),
+        row-byte (4 * k + 2) (omega arith),
+        row-byte (4 * k + 3) (omega arith),
+      ) (simp add-assoc)

@@ -1,0 +1,50 @@
+-- `length_no`: fewer than two bytes, or the field against the count behind it.
+use borrow.Author.Tests.{lt-leb, le-leb, eq-eqb, ne-eqb}
+use borrow.Author.Needs.{needs}
+use Rattle.fields.proofs.length_no.Statement.{statement}
+use Rattle.fields.proofs.length_no.Tie as tie
+
+returns : tie.Need-returns
+returns c = rw (lt-leb _ _ (c .if1 .taken))
+
+byte-at-requires : tie.Need-byte-at-requires
+byte-at-requires c κs = search needs
+
+cast-high : tie.Need-cast-high
+cast-high c = search needs
+
+byte-at-requires-2 : tie.Need-byte-at-requires-2
+byte-at-requires-2 c κs = search needs
+
+cast-low : tie.Need-cast-low
+cast-low c = search needs
+
+mul-if2 : tie.Need-mul-if2
+mul-if2 c = search needs
+
+add-if2 : tie.Need-add-if2
+add-if2 c = search needs
+
+sub-if2 : tie.Need-sub-if2
+sub-if2 c = search needs
+
+returns-2 : tie.Need-returns-2
+returns-2 c = rw (← c .before .before .byte-at .ensures, ← c .before .byte-at2 .ensures, le-leb _ _ (c .before .before .before .if1 .left), eq-eqb _ _ (c .if2 .taken))
+
+returns-3 : tie.Need-returns-3
+returns-3 c = rw (← c .before .before .byte-at .ensures, ← c .before .byte-at2 .ensures, le-leb _ _ (c .before .before .before .if1 .left), ne-eqb _ _ (c .if2 .left))
+
+pub length-no-spec : {M : Type 1} → statement M
+length-no-spec =
+    tie.close
+    (tie.spec
+    returns
+    byte-at-requires
+    cast-high
+    byte-at-requires-2
+    cast-low
+    mul-if2
+    add-if2
+    sub-if2
+    returns-2
+    returns-3)

@@ -1,0 +1,5 @@
+pub mod Counting
+pub mod Ends
+pub mod Lists
+pub mod Records
+pub mod Runs

@@ -1,0 +1,54 @@
+-- How the number and the answer of a whole sheet come together from its parts.
+use Prim.Native.Nat.{ℕ, zero, suc}
+use mathlib.Core.Path.{_≡_, refl, sym, _∙_}
+use mathlib.Core.List.{List}
+use native.Mathlib.Omega.{arith}
+use Rattle.convention.specs.declared.Head.{Head}
+use Rattle.convention.specs.declared.Reading.{Reading}
+use Rattle.convention.specs.declared.SheetAnswer.{SheetAnswer}
+use Rattle.convention.specs.Numbers.{orElse, reading}
+use Rattle.convention.specs.Fields.{headOf, openingNo, leftOverNo}
+use Rattle.convention.specs.Sheets.{sheetNo, sheetOf, sheetGiven, blankSheet, readSheet}
+use Rattle.convention.proofs.Numbers.{or-zero, or-here, or-on}
+use Rattle.convention.proofs.Offsets.{width-pos}
+use Rattle.convention.proofs.Sheets.{head-there, head-read, opening-head}
+use Rattle.sheet.specs.Kinds.{HeadThere, KindsAre, KindsRight}
+
+-- An opening that is right has a head.
+pub opened : (h : Head) (s : List ℕ) (number : ℕ) → number ≡ openingNo s → number ≡ 0 → h ≡ headOf s → HeadThere h s
+unfolding headOf
+opened h s number en ez eh =
+    let right = opening-head s (sym en ∙ ez) in
+    rw eh (record { wide = width-pos _ (head-read s right .width); within = head-there s right })
+
+-- An opening that is wrong gives the sheet's number; else the kinds and what is left over do.
+pub number-opening : (s : List ℕ) (number : ℕ) → number ≡ openingNo s → (number ≡ 0 → ⊥) → number ≡ sheetNo s
+unfolding sheetNo
+number-opening s number en nz = en ∙ sym (or-here (openingNo s) _ (rw (← en) (omega (arith, nz))))
+
+pub number-kinds : (h : Head) (s : List ℕ) (opening number end over r : ℕ)
+    → opening ≡ openingNo s → opening ≡ 0 → h ≡ headOf s → KindsAre h s number end → over ≡ leftOverNo s end → r ≡ orElse number over
+    → r ≡ sheetNo s
+unfolding sheetNo
+number-kinds h s opening zero end over r eo ez eh k el er =
+    rw (or-on (openingNo s) _ (sym eo ∙ ez), ← eh, ← k .first) (er ∙ (el ∙ rw (k .ends refl)))
+number-kinds h s opening (suc number) end over r eo ez eh k el er = rw (or-on (openingNo s) _ (sym eo ∙ ez), ← eh, ← k .first) er
+
+-- A sheet that can be read has kinds that are right.
+pub read-right : (h : Head) (s : List ℕ) → sheetNo s ≡ 0 → h ≡ headOf s → KindsRight h s
+unfolding sheetNo
+read-right h s e eh =
+    let opening = or-zero (openingNo s) _ e in
+    let head = opening-head s (opening .0) in
+    rw eh (record { within = head-there s head; count = head-read s head .kinds; right = or-zero _ _ (opening .1) .0 })
+
+-- A number that is not 0 refuses, and gives a blank sheet.
+refused : (n number : ℕ) (s : List ℕ) → number ≡ n → (number ≡ 0 → ⊥)
+    → _≡_ {A = SheetAnswer} (record { reading = Reading.Refused number; sheet = blankSheet }) (record { reading = reading n; sheet = sheetGiven n (sheetOf s) })
+refused zero number s e nz = absurd (nz e)
+refused (suc n) number s e nz = rw e
+
+pub answer-refused : (s : List ℕ) (number : ℕ) → number ≡ sheetNo s → (number ≡ 0 → ⊥)
+    → _≡_ {A = SheetAnswer} (record { reading = Reading.Refused number; sheet = blankSheet }) (readSheet s)
+unfolding readSheet
+answer-refused s number e nz = refused (sheetNo s) number s e nz

@@ -1,0 +1,13 @@
+-- `blank_sheet`: eight blank kinds behind a head of zeros.
+use borrow.Author.Needs.{needs}
+use Rattle.sheet.proofs.blank_sheet.Statement.{statement}
+use Rattle.sheet.proofs.blank_sheet.Tie as tie
+
+blank-kinds-requires : tie.Need-blank-kinds-requires
+blank-kinds-requires c κs = search needs
+
+returns : tie.Need-returns
+returns c = rw (c .blank-kinds .ensures)
+
+pub blank-sheet-spec : {M : Type 1} → statement M
+blank-sheet-spec = tie.close (tie.spec blank-kinds-requires returns)

@@ -1,0 +1,24 @@
+-- `registers_needed`: the quotient is at most the size, so it fits.
+use native.Mathlib.Omega.{arith}
+use Rattle.convention.proofs.Offsets.{needed-most}
+use borrow.Author.Needs.{needs}
+use Rattle.sheet.proofs.registers_needed.Statement.{statement}
+use Rattle.sheet.proofs.registers_needed.Tie as tie
+
+add-bytes : tie.Need-add-bytes
+add-bytes c = search needs
+
+sub-result : tie.Need-sub-result
+sub-result c = search needs
+
+div-result : tie.Need-div-result
+div-result c = search needs
+
+cast-result : tie.Need-cast-result
+cast-result c = omega (arith, needed-most (c .args .width) (c .args .size) 255 (c .pre) (omega arith))
+
+returns : tie.Need-returns
+returns c = search needs
+
+pub registers-needed-spec : {M : Type 1} → statement M
+registers-needed-spec = tie.close (tie.spec add-bytes sub-result div-result cast-result returns)
