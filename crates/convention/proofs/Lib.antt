@@ -8,3 +8,5 @@ pub mod Tables
 pub mod Shortlex
 pub mod Pigeonhole
 pub mod Exploring
+pub mod Parts
+pub mod Runs

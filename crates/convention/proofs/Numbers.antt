@@ -8,6 +8,7 @@ use native.Mathlib.Omega.{arith}
 use lib.Dec.{ltb}
 use lib.ListN.{length}
 use borrow.Author.Tests.{ltb-true, lt-ltb, le-ltb}
+use Rattle.convention.specs.declared.Reading.{Reading}
 use Rattle.convention.specs.Numbers.{orElse, unless, reading, readingNo}
 use Rattle.convention.specs.Fields.{fieldNo}
 
@@ -55,3 +56,16 @@ field-here s k right wrong h = rw (lt-ltb k (length s) h)
 pub reading-no : (n : ℕ) → readingNo (reading n) ≡ n
 reading-no zero = refl
 reading-no (suc n) = refl
+
+-- What an answer of reading tells of that number.
+pub read-number : (n : ℕ) → reading n ≡ Reading.Read → n ≡ 0
+read-number zero e = refl
+read-number (suc n) e = cc
+
+pub refused-number : (n number : ℕ) → reading n ≡ Reading.Refused number → n ≡ number
+refused-number zero number e = cc
+refused-number (suc n) number e = cc
+
+pub refused-some : (n number : ℕ) → reading n ≡ Reading.Refused number → 0 < n
+refused-some zero number e = let never : _≡_ {A = ℕ} 0 1 = cc in absurd (omega arith)
+refused-some (suc n) number e = omega arith

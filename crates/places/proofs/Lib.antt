@@ -3,3 +3,4 @@ pub mod Ends
 pub mod Lists
 pub mod Records
 pub mod Runs
+pub mod Walks

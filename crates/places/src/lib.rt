@@ -13,6 +13,13 @@ ghost use Rattle.convention.specs.Lists.{unknownAt, recordOf};
 ghost use Rattle.convention.specs.Rules.{freeRun, markRun, placeTaken, placeP};
 ghost use Rattle.places.specs.Ends.{runEnd, stackEnd};
 
+// What going through a list found: the fault of the first faulty step and its position; or 0, and the final p.
+pub struct Walk {
+    pub fault: u8,
+    pub stop: usize,
+    pub p: Offset,
+}
+
 // Whether the run of `count` registers from `first` on is wholly available.
 pub fn free_run(taken: [bool; 16], first: Reg, count: u8) -> bool
     requires { ⌜ first .0 + count ≤ 16 ⌝ }

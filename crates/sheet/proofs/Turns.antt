@@ -12,6 +12,7 @@ use Rattle.convention.specs.Fields.{fieldNo, kindsAt}
 use Rattle.convention.specs.declared.Head.{Head}
 use Rattle.convention.specs.declared.SheetKind.{SheetKind}
 use Rattle.convention.specs.Sheets.{startsAt, startsNo, sheetKindLength, sheetKindNo, sheetKindOf, sheetKindsNo, sheetKindsOf, sheetKindsLength, blankKind}
+use Rattle.convention.proofs.Parts.{rest-of}
 use Rattle.convention.proofs.Filled.{filled, fill-turn, fill-done}
 use Rattle.convention.proofs.Sheets.{kind-tries, kind-length, kinds-count}
 use Rattle.sheet.specs.Kinds.{KindsAre, KindsLeft, KindWhole, KindsRight, KindsStored}
@@ -45,10 +46,6 @@ pub starts-end : (n k : ℕ) (s : List ℕ) (at left w : ℕ) → startsNo n k s
 unfolding startsNo
 starts-end n k s at zero w inv h = inv
 starts-end n k s at (suc left) w inv h = absurd (omega arith)
-
--- The part of a slice from `at` on.
-pub rest-of : (s : List ℕ) (at : ℕ) → take (length s - at) (drop at s) ≡ drop at s
-rest-of s at = take-all (length s - at) (drop at s) (rw length-drop (omega arith))
 
 -- A kind that is right leaves the number and the end of the others; one that is not gives its own number.
 pub kinds-turn : (h : Head) (s : List ℕ) (at left number len : ℕ)

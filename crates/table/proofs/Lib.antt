@@ -1,0 +1,5 @@
+pub mod InOrder
+pub mod Runs
+pub mod Stored
+pub mod Whole
+pub mod Rows

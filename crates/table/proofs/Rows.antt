@@ -1,0 +1,82 @@
+-- Transitions and rows: their numbers, and that what is asked for lies within the table's bytes.
+use Prim.Native.Nat.{ℕ, zero, suc, _+_, _-_, _*_, _^_, _≤_, _<_}
+use mathlib.Core.Path.{_≡_, refl, sym, _∙_}
+use mathlib.Core.Bool.{Bool}
+use mathlib.Core.List.{List, []}
+use native.Mathlib.Nat.{mul-le-mul, mul-le-mul-left}
+use native.Mathlib.Omega.{arith}
+use lib.Dec.{ltb}
+use lib.ListN.{length, getD, take, drop}
+use mir.Syntax.{w8, w16, w64}
+use mir.Val.{Fits}
+use borrow.Author.Tests.{le-leb, lt-ltb, le-ltb}
+use Rattle.convention.specs.declared.Head.{Head}
+use Rattle.convention.specs.declared.Table.{Table}
+use Rattle.convention.specs.declared.Transition.{Transition}
+use Rattle.convention.specs.Numbers.{unless}
+use Rattle.convention.specs.Fields.{headOf}
+use Rattle.convention.specs.Tables.{statesAt, transitionOf, isTransition, transitionNo, rowLength, rowAt, tableNo, transitionAt, rowNo, rowGiven, row}
+use Rattle.convention.specs.Promised.{TableRead}
+use Rattle.convention.proofs.Tables.{row-part, row-is}
+use Rattle.table.specs.Asked.{InTable}
+use Rattle.table.proofs.InOrder.{first, later}
+
+-- The number of a transition whose four bytes are there.
+pub transition-number : (h : Head) (states : ℕ) (t : List ℕ) (at : ℕ) (x : Transition) (right b : Bool)
+    → at + 4 ≤ length t → x ≡ transitionOf t at → right ≡ isTransition h states x → right ≡ b → unless b 7 ≡ transitionNo h states t at
+unfolding transitionNo
+transition-number h states t at x right b l ex er eb = rw (← eb, er, ex, le-leb _ _ l)
+
+-- The number of all transitions and the place where the rows end fit, whatever a byte says of the kinds and two bytes of the states.
+product : (m n : ℕ) → Fits w8 m → Fits w16 n → m * n ≤ 255 * 65535
+product m n fm fn =
+    let kinds : m ≤ 255 = omega arith in
+    let states : n ≤ 65535 = omega arith in
+    mul-le-mul kinds states
+
+pub count-fits : (m n : ℕ) → Fits w8 m → Fits w16 n → Fits w64 (m * n)
+count-fits m n fm fn = omega (arith, product m n fm fn)
+
+pub end-fits : (m n : ℕ) → Fits w8 m → Fits w16 n → rowAt m n < 2 ^ 64
+end-fits m n fm fn = omega (arith, product m n fm fn)
+
+-- The bytes of a transition that a table has lie within the table's.
+pub transition-within : (limit : ℕ) (table : Table) (t : List ℕ) (state k : ℕ) → TableRead limit table t → InTable table state k
+    → transitionAt (table .head .kinds) state k + 4 ≤ length t
+transition-within limit table t state k read asked =
+    omega (arith, read .whole, asked .kind, mul-le-mul-left (rowLength (table .head .kinds)) (asked .state))
+
+-- A table that cannot be read gives the number of asking for a row; else the state does.
+module _ (limit : ℕ) (t : List ℕ) (state number : ℕ) (e : number ≡ tableNo limit t) where
+  pub number-table : (number ≡ 0 → ⊥) → number ≡ rowNo limit t state
+  unfolding rowNo
+  number-table nz = first _ _ number e nz
+
+  module _ (h : Head) (states : ℕ) (z : number ≡ 0) (eh : h ≡ headOf t) (es : states ≡ getD t (statesAt (h .kinds)) 0) where
+    number-state : (r : ℕ) → r ≡ unless (ltb state states) 13 → r ≡ rowNo limit t state
+    unfolding rowNo
+    number-state r er = rw (← eh, ← es) (later _ _ number r e z er)
+
+    pub state-known : state < states → 0 ≡ rowNo limit t state
+    state-known l = number-state 0 (rw (lt-ltb _ _ l))
+
+    pub state-unknown : states ≤ state → 13 ≡ rowNo limit t state
+    state-unknown l = number-state 13 (rw (le-ltb _ _ l))
+
+-- A row that is refused is the empty part; one that is given lies within the table's bytes.
+pub row-refused : (limit : ℕ) (t : List ℕ) (state number : ℕ) → number ≡ rowNo limit t state → (number ≡ 0 → ⊥) → [] ≡ row limit t state
+unfolding row
+row-refused limit t state number e nz = rw (← e) (none number _ nz)
+  where
+    none : (n : ℕ) (part : List ℕ) → (n ≡ 0 → ⊥) → [] ≡ rowGiven n part
+    none zero part nz = absurd (nz refl)
+    none (suc n) part nz = refl
+
+module _ (limit : ℕ) (t : List ℕ) (state number : ℕ) (h : Head) (e : number ≡ rowNo limit t state) (z : number ≡ 0) (eh : h ≡ headOf t) where
+  pub row-within : rowAt (h .kinds) state + rowLength (h .kinds) ≤ length t
+  row-within = rw eh (row-part limit t state (sym e ∙ z))
+
+  pub row-given : (start : ℕ) → start ≡ rowAt (h .kinds) state → take (start + rowLength (h .kinds) - start) (drop start t) ≡ row limit t state
+  row-given start es =
+      let long : start + rowLength (h .kinds) - start ≡ rowLength (h .kinds) = omega arith in
+      rw (long, es, eh) (sym (row-is limit t state (sym e ∙ z)))

@@ -1,0 +1,73 @@
+-- What the public call hands down: known kinds, no fault, and room; and how its answer comes together.
+use Prim.Native.Nat.{ℕ, _*_, _≤_}
+use mathlib.Core.Path.{_≡_, sym, _∙_}
+use mathlib.Core.List.{List}
+use native.Mathlib.Omega.{arith}
+use lib.ListN.{length}
+use Rattle.convention.specs.declared.Head.{Head}
+use Rattle.convention.specs.declared.Table.{Table}
+use Rattle.convention.specs.declared.Offset.{Offset}
+use Rattle.convention.specs.declared.Placing.{Placing}
+use Rattle.convention.specs.declared.Reading.{Reading}
+use Rattle.convention.specs.declared.TableAnswer.{TableAnswer}
+use Rattle.convention.specs.Numbers.{stateLimit, argumentLimit, reading}
+use Rattle.convention.specs.Tables.{tableNo, tableOf, readTable}
+use Rattle.convention.specs.Lists.{unknownAt, recordLength, placingMemory}
+use Rattle.convention.specs.Walked.{byTable, placeByTable, tableMemory}
+use Rattle.convention.specs.Promised.{TableRead}
+use Rattle.convention.proofs.Numbers.{read-number, refused-number, refused-some}
+use Rattle.convention.proofs.Lists.{unknown-le}
+use Rattle.convention.proofs.Tables.{table-read, table-given}
+use Rattle.places.specs.Walks.{WalkIs, PlacingIs}
+use Rattle.places.proofs.Walks.{not-read}
+use Rattle.walking.specs.Asked.{WalkAsks, WriteAsks}
+
+-- A list that is short enough and has no unknown kind can be walked; one without a fault, given room, can be written.
+pub walk-asks : (table : Table) (t ks : List ℕ) (h : Head) (at : ℕ) → TableRead stateLimit table t → length ks ≤ argumentLimit
+    → h ≡ table .head → at ≡ unknownAt (h .kinds) ks → length ks ≤ at → WalkAsks table t ks
+walk-asks table t ks h at read few eh e known =
+    let most = unknown-le (table .head .kinds) ks in
+    let is : at ≡ unknownAt (table .head .kinds) ks = rw eh at e in
+    record { read = read; known = omega arith; few = few }
+
+pub write-asks : (table : Table) (t ks out : List ℕ) (h : Head) (at fault stop : ℕ) (p : Offset) → TableRead stateLimit table t → length ks ≤ argumentLimit
+    → h ≡ table .head → at ≡ unknownAt (h .kinds) ks → length ks ≤ at → recordLength * length ks ≤ length out
+    → WalkIs (byTable table t) ks fault stop p → fault ≡ 0 → WriteAsks table t ks out
+write-asks table t ks out h at fault stop p read few eh e known room walk z =
+    record { walk = walk-asks table t ks h at read few eh e known; free = sym (walk .first) ∙ z; room = room }
+
+-- The reader's answer: what it promises where it read the table, and the call's answer and memory on either.
+module _ (t : List ℕ) (a : TableAnswer) (ea : a ≡ readTable stateLimit t) where
+  number : reading (tableNo stateLimit t) ≡ a .reading
+  unfolding readTable
+  number = rw ea
+
+  right : a .reading ≡ Reading.Read → tableNo stateLimit t ≡ 0
+  right e = read-number (tableNo stateLimit t) (number ∙ e)
+
+  table-is : a .reading ≡ Reading.Read → a .table ≡ tableOf t
+  table-is e = rw ea (table-given stateLimit t (right e))
+
+  pub was-read : a .reading ≡ Reading.Read → TableRead stateLimit (a .table) t
+  was-read e = rw (table-is e) (table-read stateLimit t (right e))
+
+  module _ (ks out : List ℕ) where
+    pub refused-answer : (n : ℕ) → a .reading ≡ Reading.Refused n → Placing.Refused n ≡ placeByTable stateLimit argumentLimit t ks (length out)
+    unfolding placeByTable
+    refused-answer n e =
+        let is = refused-number (tableNo stateLimit t) n (number ∙ e) in
+        rw (← is) (sym (not-read argumentLimit (tableNo stateLimit t) _ _ ks (length out) (refused-some (tableNo stateLimit t) n (number ∙ e))))
+
+    pub refused-memory : (n : ℕ) → a .reading ≡ Reading.Refused n → out ≡ tableMemory stateLimit argumentLimit t ks out
+    unfolding tableMemory placingMemory
+    refused-memory n e = rw (← refused-answer n e)
+
+    module _ (e : a .reading ≡ Reading.Read) (r : Placing) (after : List ℕ)
+        (is : PlacingIs argumentLimit (a .table .head .kinds) (byTable (a .table) t) ks out r after) where
+      pub placed-answer : r ≡ placeByTable stateLimit argumentLimit t ks (length out)
+      unfolding placeByTable
+      placed-answer = rw (right e, ← table-is e) (is .answers)
+
+      pub placed-memory : after ≡ tableMemory stateLimit argumentLimit t ks out
+      unfolding tableMemory
+      placed-memory = rw (← placed-answer, ← table-is e) (is .memory)

@@ -1,0 +1,82 @@
+-- One turn of each walk over a list by a table: it stands in a state of the table, and p is no further than the arguments so far can take it.
+use Prim.Native.Nat.{ℕ, _+_, _*_, _≤_, _<_}
+use mathlib.Core.Path.{_≡_, refl, sym, _∙_}
+use mathlib.Core.List.{List}
+use native.Mathlib.Omega.{arith}
+use lib.ListN.{length, getD}
+use Rattle.convention.specs.declared.Table.{Table}
+use Rattle.convention.specs.declared.ByTable.{ByTable}
+use Rattle.convention.specs.declared.Placement.{Placement}
+use Rattle.convention.specs.declared.Offset.{Offset}
+use Rattle.convention.specs.Lists.{recordOf}
+use Rattle.convention.specs.Bytes.{written}
+use Rattle.convention.specs.Walked.{byTable}
+use Rattle.convention.proofs.Lists.{known, turn-free, record-length}
+use Rattle.convention.proofs.Bytes.{length-written}
+use Rattle.places.specs.Walks.{WalkIs, recordsBefore}
+use Rattle.places.proofs.Walks.{walk-begin, walk-on, walk-hit, walk-end, write-begin, write-on, write-end}
+use Rattle.walking.specs.Asked.{ArgumentAsks, CheckIs, ArgumentIs, WalkAsks, WriteAsks, Standing, Writing, walkBegin}
+use Rattle.walking.proofs.Steps.{next-state, next-reach}
+
+module _ (table : Table) (t ks : List ℕ) (asks : WalkAsks table t ks) where
+  -- Before the first argument.
+  pub standing-begin : (s : ByTable) → s ≡ walkBegin → Standing table t ks s 0
+  standing-begin s e = rw e (record { walk = walk-begin (byTable table t) ks; state = asks .read .some; reach = omega arith })
+
+  module _ (s : ByTable) (i : ℕ) (standing : Standing table t ks s i) (h : i < length ks) where
+    -- The next argument can be looked at.
+    pub next-asks : ArgumentAsks table t s (getD ks i 0)
+    next-asks = record {
+      read = asks .read;
+      inside = record { state = standing .state; kind = known (table .head .kinds) ks (asks .known) i h };
+      reach = omega (arith, standing .reach, asks .few);
+    }
+
+    -- Behind an argument without a fault.
+    on : (next : ByTable) → byTable table t .fault s (getD ks i 0) ≡ 0 → next ≡ byTable table t .after s (getD ks i 0) → Standing table t ks next (i + 1)
+    on next none after =
+        rw after
+        (record {
+          walk = walk-on (byTable table t) ks s _ i _ (standing .walk) h refl none refl;
+          state = next-state table t s (getD ks i 0) next-asks;
+          reach = omega (arith, next-reach table t s (getD ks i 0) next-asks none, standing .reach);
+        })
+
+    pub checked-on : (fault : ℕ) (next : ByTable) → CheckIs table t s (getD ks i 0) fault next → fault ≡ 0 → Standing table t ks next (i + 1)
+    checked-on fault next check z = on next (sym (check .found) ∙ z) (check .after z)
+
+    -- At an argument with one.
+    pub checked-hit : (fault : ℕ) (next : ByTable) (p : Offset) → CheckIs table t s (getD ks i 0) fault next → (fault ≡ 0 → ⊥)
+        → WalkIs (byTable table t) ks fault i p
+    checked-hit fault next p check nz = walk-hit (byTable table t) ks s i fault p (standing .walk) h (check .found) nz
+
+  -- Behind the last argument.
+  pub standing-end : (s : ByTable) (i : ℕ) → Standing table t ks s i → length ks ≤ i → WalkIs (byTable table t) ks 0 i (s .p)
+  standing-end s i standing h = walk-end (byTable table t) ks s i (s .p) (standing .walk) h refl
+
+-- Writing: before the first argument, at the next one, behind it, and behind the last.
+module _ (table : Table) (t ks before : List ℕ) (asks : WriteAsks table t ks before) where
+  pub writing-begin : (s : ByTable) → s ≡ walkBegin → Writing table t ks before s 0 before
+  writing-begin s e = rw e
+      (record { standing = standing-begin table t ks (asks .walk) walkBegin refl; writes = write-begin (byTable table t) ks before; long = refl })
+
+  module _ (s : ByTable) (i : ℕ) (out : List ℕ) (writing : Writing table t ks before s i out) where
+    module _ (h : i < length ks) where
+      pub writing-asks : ArgumentAsks table t s (getD ks i 0)
+      writing-asks = next-asks table t ks (asks .walk) s i (writing .standing) h
+
+      pub writing-room : 6 * i + 6 ≤ length out
+      writing-room = omega (arith, writing .long, asks .room)
+
+      pub writing-on : (place : Placement) (next : ByTable) (after : List ℕ) → ArgumentIs table t s (getD ks i 0) place next
+          → after ≡ written out (6 * i) (recordOf place) → Writing table t ks before next (i + 1) after
+      writing-on place next after argument ea =
+          let none = turn-free (byTable table t) s ks i h (writing .standing .walk .fault ∙ asks .free) in
+          record {
+            standing = on table t ks (asks .walk) s i (writing .standing) h next none (argument .after);
+            writes = write-on (byTable table t) ks before out after s next place i (writing .writes) h (argument .placed) ea (argument .after);
+            long = rw ea (length-written out (6 * i) (recordOf place) (rw record-length writing-room)) ∙ writing .long;
+          }
+
+    pub writing-end : length ks ≤ i → out ≡ recordsBefore (byTable table t) ks before
+    writing-end h = write-end (byTable table t) ks before out s i (writing .writes) h

@@ -1,0 +1,58 @@
+-- `walk`: what is left of the list answers the whole; the walk stands in a state of the table, with p within reach.
+use Rattle.walking.proofs.Lists.{standing-begin, next-asks, checked-on, checked-hit, standing-end}
+use Rattle.walking.proofs.Lists.{standing-begin, next-asks, checked-on}
+use Rattle.walking.specs.Asked.{Standing}
+use lib.ListN.{length}
+use Prim.Native.Nat.{_-_}
+use borrow.Author.Needs.{needs}
+use Rattle.walking.proofs.walk.Statement.{statement}
+use Rattle.walking.proofs.walk.Tie as tie
+
+abbrev Inv-loop : tie.InvT-loop
+Inv-loop table t list s₀ i₀ s i = Standing table t list s i
+
+abbrev μ-loop : tie.MeasureT-loop
+μ-loop table t list s₀ i₀ s i = length list - i
+
+begin-requires : tie.Need-begin-requires Inv-loop μ-loop
+begin-requires c κs = search needs
+
+loop-holds : tie.Need-loop-holds Inv-loop μ-loop
+loop-holds c = search (standing-begin, needs)
+
+shared-slice-read-check : tie.Need-shared-slice-read-check Inv-loop μ-loop
+shared-slice-read-check c = search needs
+
+check-requires : tie.Need-check-requires Inv-loop μ-loop
+check-requires c κs = search (next-asks, needs)
+
+returns : tie.Need-returns Inv-loop μ-loop
+returns c = search (checked-hit, needs)
+
+add-i : tie.Need-add-i Inv-loop μ-loop
+add-i c = search needs
+
+loop-less : tie.Need-loop-less Inv-loop μ-loop
+loop-less c = search needs
+
+loop-again : tie.Need-loop-again Inv-loop μ-loop
+loop-again c = search (checked-on, needs)
+
+returns-2 : tie.Need-returns-2 Inv-loop μ-loop
+returns-2 c = search (standing-end, needs)
+
+pub walk-spec : {M : Type 1} → statement M
+walk-spec =
+    tie.close
+    (tie.spec
+    Inv-loop
+    μ-loop
+    begin-requires
+    loop-holds
+    shared-slice-read-check
+    check-requires
+    returns
+    add-i
+    loop-less
+    loop-again
+    returns-2)

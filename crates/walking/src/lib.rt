@@ -1,0 +1,233 @@
+// Placing by a table: one step with its fault, then a list. Document 01, 'Placing by a table'.
+use convention::ByTable;
+use convention::Head;
+use convention::Offset;
+use convention::Placement;
+use convention::Placing;
+use convention::Reading;
+use convention::Reg;
+use convention::Table;
+use convention::TableKind;
+use convention::Transition;
+use places::Walk;
+ghost use mathlib.Core.Path.{_≡_};
+ghost use Prim.Native.Nat.{_<_};
+ghost use lib.ListN.{length};
+ghost use Rattle.convention.specs.Numbers.{stateLimit, argumentLimit};
+ghost use Rattle.convention.specs.Promised.{TableRead};
+ghost use Rattle.convention.specs.Walked.{registersFault, stackFault, tableFault, tablePlace, byTable, placeByTable, tableMemory};
+ghost use Rattle.places.specs.Walks.{WalkIs, PlacingIs, recordsBefore};
+ghost use Rattle.walking.specs.Asked.{RunWithin, FaultAsks, PlaceAsks, StepIs, ArgumentAsks, CheckIs, ArgumentIs, WalkAsks, WriteAsks, walkBegin};
+
+// Faults 2 and 3 of a step that gives registers.
+fn registers_fault(head: Head, kind: TableKind, x: Transition, given: [bool; 16]) -> u8
+    requires { ⌜ RunWithin x ⌝ }
+    ensures { λ r. ⌜ r ≡ registersFault head kind x given ⌝ }
+{
+    if places::free_run(given, Reg(x.a), x.b) {
+        if (x.b as u16) * (head.width as u16) < kind.size as u16 {
+            3
+        } else {
+            0
+        }
+    } else {
+        2
+    }
+}
+
+// Faults 3 and 4 of a step on the stack.
+fn stack_fault(kind: TableKind, x: Transition) -> u8
+    requires { ⌜ 0 < kind .alignment ⌝ }
+    ensures { λ r. ⌜ r ≡ stackFault kind x ⌝ }
+{
+    if x.b != kind.size {
+        return 3;
+    }
+    if x.a % kind.alignment != 0 {
+        return 4;
+    }
+    0
+}
+
+// A step's fault, the first that applies; 0 where none does.
+pub fn step_fault(head: Head, kind: TableKind, x: Transition, given: [bool; 16]) -> u8
+    requires { ⌜ FaultAsks kind x ⌝ }
+    ensures { λ r. ⌜ r ≡ tableFault head kind x given ⌝ }
+{
+    if x.form == 1 {
+        return registers_fault(head, kind, x, given);
+    }
+    if x.form == 2 {
+        return stack_fault(kind, x);
+    }
+    1
+}
+
+// The place that a transition gives from p on.
+fn place(head: Head, x: Transition, s: ByTable) -> Placement
+    requires { ⌜ PlaceAsks head x s ⌝ }
+    ensures { λ r. ⌜ r ≡ tablePlace head x (s .p .0) ⌝ }
+{
+    if x.form == 1 {
+        return Placement::Registers(Reg(x.a), x.b);
+    }
+    if x.form == 2 {
+        let p = s.p;
+        return Placement::Stack(places::least_offset(head.modulus, x.a, p), x.b);
+    }
+    Placement::Nowhere
+}
+
+// One argument placed: its place, and how far placing has come behind it.
+pub struct Stepped {
+    pub place: Placement,
+    pub next: ByTable,
+}
+
+// One step by a transition, whatever its fault, from wherever there is room for the most that an argument takes.
+fn step(head: Head, x: Transition, s: ByTable) -> Stepped
+    requires { ⌜ PlaceAsks head x s ⌝ }
+    ensures { λ r. ⌜ StepIs head x s (r .place) (r .next) ⌝ }
+{
+    let found = place(head, x, s);
+    let before = s.given;
+    let at = s.p;
+    let given = places::place_taken(found, before);
+    let p = places::place_p(found, at);
+    let next = ByTable {
+        state: x.next,
+        given,
+        p,
+    };
+    Stepped { place: found, next }
+}
+
+// State 0, no register given, and p = 0.
+fn begin() -> ByTable
+    ensures { λ r. ⌜ r ≡ walkBegin ⌝ }
+{
+    ByTable {
+        state: 0,
+        given: [false; 16],
+        p: Offset(0),
+    }
+}
+
+// One argument looked at: its step's fault, and how far placing has come behind it if there is none.
+pub struct Checked {
+    pub fault: u8,
+    pub next: ByTable,
+}
+
+// Looks at one argument, of a kind of a table that was read. One transition is read.
+fn check(table: Table, t: &[u8], s: ByTable, k: u8) -> Checked
+    requires { ⌜ ArgumentAsks table (now t) s k ⌝ }
+    ensures { λ r. ⌜ CheckIs table (now (t .entry)) s k (r .fault) (r .next) ⌝ }
+{
+    let x = table::transition_of(table, t, s.state, k);
+    let kind = table.kinds[k as usize];
+    let head = table.head;
+    let given = s.given;
+    let fault = step_fault(head, kind, x, given);
+    if fault != 0 {
+        return Checked { fault, next: s };
+    }
+    let stepped = step(head, x, s);
+    let next = stepped.next;
+    Checked { fault: 0, next }
+}
+
+// Places one argument, of a kind of a table that was read, where its step has no fault. One transition is read.
+fn argument(table: Table, t: &[u8], s: ByTable, k: u8) -> Stepped
+    requires { ⌜ ArgumentAsks table (now t) s k ⌝ }
+    ensures { λ r. ⌜ ArgumentIs table (now (t .entry)) s k (r .place) (r .next) ⌝ }
+{
+    let x = table::transition_of(table, t, s.state, k);
+    let head = table.head;
+    step(head, x, s)
+}
+
+// Goes through a list of known kinds up to its first faulty step.
+pub fn walk(table: Table, t: &[u8], list: &[u8]) -> Walk
+    requires { ⌜ WalkAsks table (now t) (now list) ⌝ }
+    ensures { λ r. ⌜ WalkIs (byTable table (now (t .entry))) (now (list .entry)) (r .fault) (r .stop) (r .p) ⌝ }
+{
+    let mut s = begin();
+    let mut i = 0;
+    while i < list.len() {
+        let checked = check(table, t, s, list[i]);
+        if checked.fault != 0 {
+            return Walk {
+                fault: checked.fault,
+                stop: i,
+                p: Offset(0),
+            };
+        }
+        s = checked.next;
+        i += 1;
+    }
+    let p = s.p;
+    Walk {
+        fault: 0,
+        stop: i,
+        p,
+    }
+}
+
+// Writes the records of a list of known kinds that has no faulty step.
+fn write_list(table: Table, t: &[u8], list: &[u8], out: &mut [u8])
+    requires { ⌜ WriteAsks table (now t) (now list) (now out) ⌝ }
+    ensures { λ _. ⌜ now (out .exit) ≡ recordsBefore (byTable table (now (t .entry))) (now (list .entry)) (now (out .entry)) ⌝ }
+{
+    let mut s = begin();
+    let mut i = 0;
+    while i < list.len() {
+        let stepped = argument(table, t, s, list[i]);
+        let place = stepped.place;
+        places::write_record(place, out, 6 * i);
+        s = stepped.next;
+        i += 1;
+    }
+}
+
+// Places a list by a table that was read, in 01's order of refusals: 8, 12, 9, 10.
+fn place_list(table: Table, t: &[u8], list: &[u8], out: &mut [u8]) -> Placing
+    requires { ⌜ TableRead stateLimit table (now t) ⌝ }
+    ensures { λ r. ⌜ PlacingIs argumentLimit (table .head .kinds) (byTable table (now (t .entry))) (now (list .entry)) (now (out .entry)) r (now (out .exit)) ⌝ }
+{
+    let n = list.len();
+    if 400 < n {
+        return Placing::Refused(8);
+    }
+    if out.len() < 6 * n {
+        return Placing::Refused(12);
+    }
+    let head = table.head;
+    let at = places::unknown_at(head.kinds, list);
+    if at < n {
+        return Placing::Unknown(at);
+    }
+    let walked = walk(table, t, list);
+    if walked.fault != 0 {
+        return Placing::Faulty(walked.stop, walked.fault);
+    }
+    write_list(table, t, list, out);
+    let p = walked.p;
+    Placing::Placed(n, p)
+}
+
+// Places a list of kinds by a table: the records in the first bytes of `out`, or a refusal that writes nothing.
+pub fn place_by_table(t: &[u8], list: &[u8], out: &mut [u8]) -> Placing
+    ensures { λ r. ⌜ r ≡ placeByTable stateLimit argumentLimit (now (t .entry)) (now (list .entry)) (length (now (out .entry))) ⌝ }
+    ensures { λ _. ⌜ now (out .exit) ≡ tableMemory stateLimit argumentLimit (now (t .entry)) (now (list .entry)) (now (out .entry)) ⌝ }
+{
+    let read = table::read_table(t);
+    let reading = read.reading;
+    match reading {
+        Reading::Refused(number) => Placing::Refused(number),
+        Reading::Read => {
+            let table = read.table;
+            place_list(table, t, list, out)
+        }
+    }
+}
