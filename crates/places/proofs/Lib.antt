@@ -4,3 +4,4 @@ pub mod Lists
 pub mod Records
 pub mod Runs
 pub mod Walks
+pub mod Apart

@@ -83,7 +83,7 @@ fn states_at(kinds: u8) -> usize
 }
 
 // Where the row of a state starts, which the caller knows to fit.
-fn row_at(kinds: u8, state: usize) -> usize
+pub fn row_at(kinds: u8, state: usize) -> usize
     requires { ⌜ rowAt kinds state < 2 ^ 64 ⌝ }
     ensures { λ r. ⌜ r ≡ rowAt kinds state ⌝ }
 {

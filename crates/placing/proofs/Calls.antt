@@ -1,0 +1,93 @@
+-- What the public call hands down, and how its answer and the lent memory come together.
+use Prim.Native.Nat.{ℕ, zero, suc, _*_, _≤_}
+use mathlib.Core.Path.{_≡_, refl, sym, _∙_}
+use mathlib.Core.List.{List}
+use native.Mathlib.Omega.{arith}
+use lib.ListN.{length}
+use Rattle.convention.specs.declared.Offset.{Offset}
+use Rattle.convention.specs.declared.Reading.{Reading}
+use Rattle.convention.specs.declared.Sheet.{Sheet}
+use Rattle.convention.specs.declared.SheetAnswer.{SheetAnswer}
+use Rattle.convention.specs.declared.Placing.{Placing}
+use Rattle.convention.specs.declared.Placing.the-variants.{Placed, Faulty}
+use Rattle.convention.specs.Numbers.{argumentLimit, reading}
+use Rattle.convention.specs.Sheets.{sheetNo, sheetOf, readSheet}
+use Rattle.convention.specs.Lists.{unknownAt, walkAnswer, placingMemory}
+use Rattle.convention.specs.Rules.{byRules, placeByRules, rulesMemory}
+use Rattle.convention.specs.Promised.{SheetRead}
+use Rattle.convention.proofs.Numbers.{read-number, refused-number, refused-some}
+use Rattle.convention.proofs.Lists.{unknown-le}
+use Rattle.convention.proofs.Sheets.{sheet-read, sheet-given}
+use Rattle.places.specs.Walks.{WalkIs, recordsBefore, PlacingIs}
+use Rattle.places.proofs.Walks.{faulty, all-placed, not-read}
+use Rattle.placing.specs.Asked.{RoomAsks}
+
+-- What a walk answers.
+pub walk-placed : (fault stop count : ℕ) (p : Offset) → fault ≡ 0 → Placed count p ≡ walkAnswer fault stop count p
+walk-placed fault stop count p z = rw z
+
+pub walk-faulty : (fault stop count : ℕ) (p : Offset) → (fault ≡ 0 → ⊥) → Faulty stop fault ≡ walkAnswer fault stop count p
+walk-faulty zero stop count p nz = absurd (nz refl)
+walk-faulty (suc fault) stop count p nz = refl
+
+-- Every kind is known, and the records have room.
+pub room-asks : (sheet : Sheet) (ks out : List ℕ) (at : ℕ) → at ≡ unknownAt (sheet .head .kinds) ks → length ks ≤ at
+    → SheetRead sheet → length ks ≤ argumentLimit → 6 * length ks ≤ length out → RoomAsks sheet ks out
+room-asks sheet ks out at ea h read short room = record {
+  asked = record { read = read; known = omega (arith, ea, unknown-le (sheet .head .kinds) ks); short = short };
+  room = room;
+}
+
+-- Of such a list: 10, and nothing written; or success, and the records written.
+module _ (sheet : Sheet) (ks out : List ℕ) (fault stop : ℕ) (p : Offset) (r : Placing) (asks : RoomAsks sheet ks out)
+    (walk : WalkIs (byRules sheet) ks fault stop p) (er : r ≡ walkAnswer fault stop (length ks) p) where
+  known : length ks ≤ unknownAt (sheet .head .kinds) ks
+  known = omega (arith, asks .asked .known)
+
+  pub known-faulty : (fault ≡ 0 → ⊥) → PlacingIs argumentLimit (sheet .head .kinds) (byRules sheet) ks out r out
+  known-faulty nz =
+      rw (er, ← walk-faulty fault stop (length ks) p nz)
+      (faulty (byRules sheet) ks argumentLimit _ out _ stop fault p (asks .asked .short) (asks .room) refl known walk nz)
+
+  pub known-placed : (out′ : List ℕ) → fault ≡ 0 → out′ ≡ recordsBefore (byRules sheet) ks out
+      → PlacingIs argumentLimit (sheet .head .kinds) (byRules sheet) ks out r out′
+  known-placed out′ z e =
+      rw (er, ← walk-placed fault stop (length ks) p z)
+      (all-placed (byRules sheet) ks argumentLimit _ out _ stop fault _ p out′ (asks .asked .short) (asks .room) refl known walk z refl e)
+
+-- The reader's answer: what it promises where it read the sheet, and the call's answer and memory on either.
+module _ (s : List ℕ) (a : SheetAnswer) (ea : a ≡ readSheet s) where
+  number : reading (sheetNo s) ≡ a .reading
+  unfolding readSheet
+  number = rw ea
+
+  module _ (e : a .reading ≡ Reading.Read) where
+    right : sheetNo s ≡ 0
+    right = read-number (sheetNo s) (number ∙ e)
+
+    sheet-is : a .sheet ≡ sheetOf s
+    sheet-is = rw ea (sheet-given s right)
+
+    pub was-read : SheetRead (a .sheet)
+    was-read = rw sheet-is (sheet-read s right)
+
+    module _ (ks out : List ℕ) (r : Placing) (after : List ℕ)
+        (is : PlacingIs argumentLimit (a .sheet .head .kinds) (byRules (a .sheet)) ks out r after) where
+      pub placed-answer : r ≡ placeByRules argumentLimit s ks (length out)
+      unfolding placeByRules
+      placed-answer = rw (right, ← sheet-is) (is .answers)
+
+      pub placed-memory : after ≡ rulesMemory argumentLimit s ks out
+      unfolding rulesMemory
+      placed-memory = rw (← placed-answer, ← sheet-is) (is .memory)
+
+  module _ (n : ℕ) (e : a .reading ≡ Reading.Refused n) (ks out : List ℕ) where
+    pub refused-answer : Placing.Refused n ≡ placeByRules argumentLimit s ks (length out)
+    unfolding placeByRules
+    refused-answer =
+        rw (← refused-number (sheetNo s) n (number ∙ e))
+        (sym (not-read argumentLimit (sheetNo s) _ _ ks (length out) (refused-some (sheetNo s) n (number ∙ e))))
+
+    pub refused-memory : out ≡ rulesMemory argumentLimit s ks out
+    unfolding rulesMemory placingMemory
+    refused-memory = rw (← refused-answer)

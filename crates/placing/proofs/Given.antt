@@ -1,0 +1,197 @@
+-- What places by the rules are like, over every list of kinds of a sheet that was read: no two share anything, each offset is aligned, and all are small.
+use Prim.Native.Nat.{ℕ, zero, suc, _+_, _*_, _/_, _%_, _^_, _≤_, _<_}
+use mathlib.Core.Path.{_≡_, refl, _∙_}
+use mathlib.Core.Bool.{Bool, true, false, cond}
+use mathlib.Core.List.{List, [], _∷_}
+use native.Mathlib.Omega.{arith}
+use lib.Dec.{ltb}
+use lib.ListN.{length, getD}
+use borrow.Author.Tests.{ltb-false, leb-true}
+use Rattle.convention.specs.declared.Offset.{Offset}
+use Rattle.convention.specs.declared.SheetKind.{SheetKind}
+use Rattle.convention.specs.declared.Placement.{Placement}
+use Rattle.convention.specs.declared.Placement.the-variants.{Registers, Stack, Nowhere}
+use Rattle.convention.specs.declared.Sheet.{Sheet}
+use Rattle.convention.specs.declared.ByRules.{ByRules}
+use Rattle.convention.specs.declared.Placing.{Placing}
+use Rattle.convention.specs.declared.Placing.the-variants.{Placed, Unknown}
+use Rattle.convention.specs.Numbers.{argumentLimit}
+use Rattle.convention.specs.Sheets.{isClosing, sheetNo, sheetOf, sheetKind}
+use Rattle.convention.specs.Lists.{Steps, faultFrom, stopFrom, stateFrom, placesFrom, unknownAt, walkAnswer, placingAnswer, placing}
+use Rattle.convention.specs.Rules.{markRun, markRuns, startsOf, needed, rulesPlace, rulesAfter, byRules, placeByRules}
+use Rattle.convention.specs.Judged.{KindsBelow}
+use Rattle.convention.specs.Promised.{SheetRead}
+use Rattle.convention.proofs.Numbers.{or-zero, unless-zero}
+use Rattle.convention.proofs.Lists.{unknown-le, known-below}
+use Rattle.convention.proofs.Bytes.{four-read}
+use Rattle.convention.proofs.Sheets.{sheet-read}
+use Rattle.convention.proofs.Offsets.{least-ge, least-is}
+use Rattle.places.specs.Ends.{stackEnd}
+use Rattle.places.proofs.Runs.{length-mark}
+use Rattle.places.proofs.Apart.{Apart, FreeIn, FromP, StepGives, mark-stays, place-length, apart}
+use Rattle.placing.specs.Asked.{stepMost}
+use Rattle.placing.proofs.Search.{left-free}
+use Rattle.placing.proofs.Steps.{place-cases, aligned, run-end, stack-end, p-grows}
+
+-- The places of a list by the rules of a sheet.
+abbrev places : Sheet → List ℕ → List Placement
+places sheet ks = placesFrom (byRules sheet) (byRules sheet .begin) ks
+
+-- A place that is stack lies at a multiple of a.
+abbrev Aligned : ℕ → Placement → Type 0
+Aligned a (Registers first count) = Unit {0}
+Aligned a (Stack offset count) = offset .0 % a ≡ 0
+Aligned a Nowhere = Unit {0}
+
+-- One place by the rules: its registers are free, its stack bytes begin at p or behind it, and at a multiple of the alignment.
+module _ (w : ℕ) (k : SheetKind) (s : ByRules) where
+  place-free : FreeIn (s .unavailable) (rulesPlace w k s)
+  place-free = place-cases w k s (FreeIn (s .unavailable)) (left-free (s .unavailable) (needed w k) (startsOf k)) tt tt
+
+  place-above : FromP (s .p) (rulesPlace w k s)
+  place-above = place-cases w k s (FromP (s .p)) (λ l. tt) (least-ge (k .alignment) 0 (s .p .0)) tt
+
+  place-aligned : 0 < k .alignment → Aligned (k .alignment) (rulesPlace w k s)
+  place-aligned h = place-cases w k s (Aligned (k .alignment)) (λ l. tt) (least-is (k .alignment) 0 (s .p .0) h .remainder) tt
+
+-- Closing keeps the number of registers, and what was taken.
+marks-length : (taken : List Bool) (count : ℕ) (starts : List ℕ) → length (markRuns taken count starts) ≡ length taken
+unfolding markRuns
+marks-length taken count [] = refl
+marks-length taken count (s ∷ starts) = marks-length (markRun taken s count) count starts ∙ length-mark taken s count
+
+marks-stay : (taken : List Bool) (count : ℕ) (starts : List ℕ) (r : ℕ) → getD taken r false ≡ true → getD (markRuns taken count starts) r false ≡ true
+unfolding markRuns
+marks-stay taken count [] r e = e
+marks-stay taken count (s ∷ starts) r e = marks-stay (markRun taken s count) count starts r (mark-stays taken s count r e)
+
+closed-length : (closing : Bool) (taken : List Bool) (count : ℕ) (starts : List ℕ) → length (cond closing (markRuns taken count starts) taken) ≡ length taken
+closed-length true taken count starts = marks-length taken count starts
+closed-length false taken count starts = refl
+
+closed-stays : (closing : Bool) (taken : List Bool) (count : ℕ) (starts : List ℕ) (r : ℕ) → getD taken r false ≡ true
+    → getD (cond closing (markRuns taken count starts) taken) r false ≡ true
+closed-stays true taken count starts r e = marks-stay taken count starts r e
+closed-stays false taken count starts r e = e
+
+module _ (sheet : Sheet) (read : SheetRead sheet) where
+  -- A step gives out what is free, and marks it.
+  rules-give : (s : ByRules) (k : ℕ) → length (s .unavailable) ≡ 16 → k < sheet .head .kinds
+      → StepGives (byRules sheet) (λ s. s .unavailable) (λ s. length (s .unavailable) ≡ 16) s k
+  unfolding rulesAfter
+  rules-give s k good h =
+      let kind = sheetKind sheet k in
+      let w = sheet .head .width in
+      record {
+        keeps = closed-length (isClosing kind) _ _ _ ∙ (place-length (rulesPlace w kind s) (s .unavailable) ∙ good);
+        within = rw good (run-end (sheet .head) kind (read .head) (read .kind k h) s (rulesPlace w kind s) refl);
+        free = place-free w kind s;
+        marks = closed-stays (isClosing kind) _ _ _;
+        above = place-above w kind s;
+        moves = refl;
+      }
+
+  -- From a state on, p and every place's stack bytes end within `stepMost` for each argument.
+  p-low : (s : ByRules) (ks : List ℕ) → KindsBelow (sheet .head .kinds) ks → stateFrom (byRules sheet) s ks .p .0 ≤ s .p .0 + stepMost * length ks
+  unfolding stateFrom KindsBelow
+  p-low s [] below = omega arith
+  p-low s (k ∷ ks) below =
+      omega (arith, p-grows (sheet .head) (sheetKind sheet k) s (read .head) (read .kind k (below .0)), p-low (byRules sheet .after s k) ks (below .1))
+
+  places-low : (s : ByRules) (ks : List ℕ) → KindsBelow (sheet .head .kinds) ks → (i : ℕ)
+      → stackEnd (getD (placesFrom (byRules sheet) s ks) i Nowhere) ≤ s .p .0 + stepMost * length ks
+  unfolding placesFrom KindsBelow
+  places-low s [] below i = omega arith
+  places-low s (k ∷ ks) below zero = omega (arith, stack-end (sheet .head) (sheetKind sheet k) (read .head) (read .kind k (below .0)) s)
+  places-low s (k ∷ ks) below (suc i) =
+      omega (arith, p-grows (sheet .head) (sheetKind sheet k) s (read .head) (read .kind k (below .0)), places-low (byRules sheet .after s k) ks (below .1) i)
+
+  places-aligned : (s : ByRules) (ks : List ℕ) → KindsBelow (sheet .head .kinds) ks → (i : ℕ)
+      → Aligned (sheetKind sheet (getD ks i 0) .alignment) (getD (placesFrom (byRules sheet) s ks) i Nowhere)
+  unfolding placesFrom KindsBelow
+  places-aligned s [] below i = tt
+  places-aligned s (k ∷ ks) below zero =
+      place-aligned (sheet .head .width) (sheetKind sheet k) s (aligned (sheet .head) (sheetKind sheet k) (read .head) (read .kind k (below .0)))
+  places-aligned s (k ∷ ks) below (suc i) = places-aligned (byRules sheet .after s k) ks (below .1) i
+
+  -- A list of known kinds.
+  module _ (ks : List ℕ) (below : KindsBelow (sheet .head .kinds) ks) where
+    -- Two arguments of a list without a fault share no register and no stack byte.
+    pub rules-apart : faultFrom (byRules sheet) (byRules sheet .begin) ks ≡ 0 → (i j : ℕ) → i < j → j < length ks
+        → Apart (getD (places sheet ks) i Nowhere) (getD (places sheet ks) j Nowhere)
+    rules-apart =
+        apart (byRules sheet) (λ s. s .unavailable) (λ s. length (s .unavailable) ≡ 16) (sheet .head .kinds)
+        (λ s k good h f. rules-give s k good h) (byRules sheet .begin) ks refl below
+
+    -- Each stack offset is a multiple of its kind's alignment.
+    pub offset-aligned : (i : ℕ) (offset : Offset) (count : ℕ) → getD (places sheet ks) i Nowhere ≡ Stack offset count
+        → offset .0 % sheetKind sheet (getD ks i 0) .alignment ≡ 0
+    offset-aligned i offset count e = rw e at (places-aligned (byRules sheet .begin) ks below i)
+
+    -- Of a list that a call places, the final p is at most 31,600, and so is where any stack bytes end.
+    module _ (short : length ks ≤ argumentLimit) where
+      pub final-most : stateFrom (byRules sheet) (byRules sheet .begin) ks .p .0 ≤ 31600
+      final-most = omega (arith, p-low (byRules sheet .begin) ks below)
+
+      pub offset-most : (i : ℕ) (offset : Offset) (count : ℕ) → getD (places sheet ks) i Nowhere ≡ Stack offset count → offset .0 + count ≤ 31600
+      offset-most i offset count e =
+          let low : stackEnd (Stack offset count) ≤ 0 + stepMost * length ks = rw e at (places-low (byRules sheet .begin) ks below i) in
+          omega arith
+
+      -- So the four bytes of its record are the offset.
+      pub offset-read : (i : ℕ) (offset : Offset) (count : ℕ) → getD (places sheet ks) i Nowhere ≡ Stack offset count
+          → 2 ^ 24 * (offset .0 / 2 ^ 24 % 256) + 2 ^ 16 * (offset .0 / 2 ^ 16 % 256) + 256 * (offset .0 / 256 % 256) + offset .0 % 256 ≡ offset .0
+      offset-read i offset count e = four-read (offset .0) (omega (arith, offset-most i offset count e))
+
+-- Success, over any way of placing, means that nothing was refused.
+record Accepted (limit number m : ℕ) (M : Steps) (ks : List ℕ) (p : Offset) : Type 0 where
+  read : number ≡ 0
+  short : length ks ≤ limit
+  below : KindsBelow m ks
+  clean : faultFrom M (M .begin) ks ≡ 0
+  final : M .p (stateFrom M (M .begin) ks) ≡ p
+
+-- What it says of the number, of unknown kinds and of the walk; and so of all.
+module _ (n : ℕ) (p : Offset) where
+  no-number : (number m : ℕ) (M : Steps) (ks : List ℕ) → placingAnswer number m M ks ≡ Placed n p → number ≡ 0
+  no-number zero m M ks e = refl
+  no-number (suc number) m M ks e = absurd (let z : _≡_ {A = ℕ} 0 1 = cc in omega arith)
+
+  none-unknown : (unknown : Bool) (at : ℕ) (walked : Placing) → cond unknown (Unknown at) walked ≡ Placed n p
+      → (unknown ≡ false) × (walked ≡ Placed n p)
+  none-unknown true at walked e = absurd (let z : _≡_ {A = ℕ} 0 1 = cc in omega arith)
+  none-unknown false at walked e = (refl, e)
+
+  no-fault : (fault stop count : ℕ) (p′ : Offset) → walkAnswer fault stop count p′ ≡ Placed n p → (fault ≡ 0) × (p′ ≡ p)
+  no-fault zero stop count p′ e = (refl, cc)
+  no-fault (suc fault) stop count p′ e = absurd (let z : _≡_ {A = ℕ} 0 1 = cc in omega arith)
+
+  accepted : (limit number m : ℕ) (M : Steps) (ks : List ℕ) (room : ℕ) → placing limit number m M ks room ≡ Placed n p
+      → Accepted limit number m M ks p
+  unfolding placing
+  accepted limit number m M ks room e =
+      let none = no-number _ m M ks e in
+      let both = or-zero number _ none in
+      let known = none-unknown (ltb (unknownAt m ks) (length ks)) (unknownAt m ks) _ (rw none at e) in
+      let walked = no-fault (faultFrom M (M .begin) ks) (stopFrom M (M .begin) ks) (length ks) (M .p (stateFrom M (M .begin) ks)) (known .1) in
+      record {
+        read = both .0;
+        short = leb-true (length ks) limit (unless-zero _ 8 (omega arith) (or-zero _ _ (both .1) .0));
+        below = known-below m ks (omega (arith, unknown-le m ks, ltb-false (unknownAt m ks) (length ks) (known .0)));
+        clean = walked .0;
+        final = walked .1;
+      }
+
+-- So of a list that a call has placed.
+module _ (s ks : List ℕ) (room n : ℕ) (p : Offset) (placed : placeByRules argumentLimit s ks room ≡ Placed n p) where
+  means : Accepted argumentLimit (sheetNo s) (sheetOf s .head .kinds) (byRules (sheetOf s)) ks p
+  unfolding placeByRules
+  means = accepted n p argumentLimit (sheetNo s) (sheetOf s .head .kinds) (byRules (sheetOf s)) ks room placed
+
+  -- The p that is answered is at most 31,600.
+  pub answer-most : p .0 ≤ 31600
+  answer-most = rw (← means .final) (final-most (sheetOf s) (sheet-read s (means .read)) ks (means .below) (means .short))
+
+  -- No two arguments share anything.
+  pub answer-apart : (i j : ℕ) → i < j → j < length ks → Apart (getD (places (sheetOf s) ks) i Nowhere) (getD (places (sheetOf s) ks) j Nowhere)
+  answer-apart = rules-apart (sheetOf s) (sheet-read s (means .read)) ks (means .below) (means .clean)

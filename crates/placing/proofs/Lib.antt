@@ -1,0 +1,5 @@
+pub mod Search
+pub mod Steps
+pub mod Lists
+pub mod Calls
+pub mod Given

@@ -1,0 +1,73 @@
+-- One turn of each walk over a list by the rules: what is left answers the whole, and p is no further than the arguments so far can take it.
+use Prim.Native.Nat.{ℕ, _+_, _*_, _≤_, _<_}
+use mathlib.Core.Path.{_≡_, refl, ap, _∙_}
+use mathlib.Core.List.{List}
+use native.Mathlib.Omega.{arith}
+use lib.ListN.{length, getD}
+use Rattle.convention.specs.declared.Offset.{Offset}
+use Rattle.convention.specs.declared.Placement.{Placement}
+use Rattle.convention.specs.declared.Sheet.{Sheet}
+use Rattle.convention.specs.declared.ByRules.{ByRules}
+use Rattle.convention.specs.Bytes.{written}
+use Rattle.convention.specs.Sheets.{sheetKind}
+use Rattle.convention.specs.Lists.{recordOf}
+use Rattle.convention.specs.Rules.{placeFault, byRules}
+use Rattle.convention.proofs.Bytes.{length-written}
+use Rattle.convention.proofs.Lists.{known, record-length}
+use Rattle.places.specs.Walks.{WalkIs, recordsBefore}
+use Rattle.places.proofs.Walks.{walk-begin, walk-on, walk-hit, walk-end, write-begin, write-on, write-end}
+use Rattle.placing.specs.Asked.{stepMost, StepAsks, StepIs, ArgumentAsks, ListAsks, rulesBegin, Standing, Writing}
+use Rattle.placing.proofs.Steps.{p-grows}
+
+-- What the step of an argument asks.
+pub argument-step : (sheet : Sheet) (s : ByRules) (k : ℕ) → ArgumentAsks sheet s k → StepAsks (sheet .head) (sheetKind sheet k) s
+argument-step sheet s k asks = record { head = asks .read .head; kind = asks .read .kind k (asks .known); room = asks .room }
+
+module _ (sheet : Sheet) (ks : List ℕ) (i : ℕ) (s : ByRules) (asks : ListAsks sheet ks) (h : i < length ks) where
+  -- The next argument can be looked at.
+  pub next-asks : s .p .0 ≤ stepMost * i → ArgumentAsks sheet s (getD ks i 0)
+  next-asks reach = record {
+    read = asks .read;
+    known = known (sheet .head .kinds) ks (asks .known) i h;
+    room = omega (arith, reach, asks .short);
+  }
+
+  module _ (place : Placement) (next : ByRules) (step : StepIs (sheet .head) (sheetKind sheet (getD ks i 0)) s place next) where
+    next-reach : s .p .0 ≤ stepMost * i → next .p .0 ≤ stepMost * (i + 1)
+    next-reach reach =
+        let kind = asks .read .kind _ (known (sheet .head .kinds) ks (asks .known) i h) in
+        rw (step .reached) (omega (arith, reach, p-grows (sheet .head) _ s (asks .read .head) kind))
+
+    -- Behind an argument that has a place, and at one that has none.
+    pub standing-on : (fault : ℕ) → Standing sheet ks s i → fault ≡ placeFault place → fault ≡ 0 → Standing sheet ks next (i + 1)
+    standing-on fault standing e z = record {
+      walk = walk-on (byRules sheet) ks s next i fault (standing .walk) h (e ∙ ap placeFault (step .placed)) z (step .reached);
+      reach = next-reach (standing .reach);
+    }
+
+    pub standing-hit : (fault : ℕ) (p : Offset) → Standing sheet ks s i → fault ≡ placeFault place → (fault ≡ 0 → ⊥)
+        → WalkIs (byRules sheet) ks fault i p
+    standing-hit fault p standing e nz = walk-hit (byRules sheet) ks s i fault p (standing .walk) h (e ∙ ap placeFault (step .placed)) nz
+
+    -- Behind an argument whose record was written.
+    pub writing-on : (before out after : List ℕ) → 6 * length ks ≤ length before → Writing sheet ks before s i out
+        → after ≡ written out (6 * i) (recordOf place) → Writing sheet ks before next (i + 1) after
+    writing-on before out after room writing e = record {
+      writes = write-on (byRules sheet) ks before out after s next place i (writing .writes) h (step .placed) e (step .reached);
+      reach = next-reach (writing .reach);
+      long = rw e (length-written out (6 * i) (recordOf place) (rw record-length (omega (arith, h, room, writing .long)))) ∙ writing .long;
+    }
+
+-- Before the first argument, and behind the last.
+module _ (sheet : Sheet) (ks : List ℕ) where
+  pub standing-begin : (s : ByRules) → s ≡ rulesBegin → Standing sheet ks s 0
+  standing-begin s e = rw e (record { walk = walk-begin (byRules sheet) ks; reach = omega arith })
+
+  pub standing-end : (s : ByRules) (i : ℕ) → Standing sheet ks s i → length ks ≤ i → WalkIs (byRules sheet) ks 0 i (s .p)
+  standing-end s i standing h = walk-end (byRules sheet) ks s i (s .p) (standing .walk) h refl
+
+  pub writing-begin : (before : List ℕ) (s : ByRules) → s ≡ rulesBegin → Writing sheet ks before s 0 before
+  writing-begin before s e = rw e (record { writes = write-begin (byRules sheet) ks before; reach = omega arith; long = refl })
+
+  pub writing-end : (before out : List ℕ) (s : ByRules) (i : ℕ) → Writing sheet ks before s i out → length ks ≤ i → out ≡ recordsBefore (byRules sheet) ks before
+  writing-end before out s i writing h = write-end (byRules sheet) ks before out s i (writing .writes) h

@@ -1,0 +1,132 @@
+-- Laws of one step, on plain values: what its parts ask, and how the place and what comes behind it are put together from what each part answers.
+use Prim.Native.Nat.{ℕ, _+_, _%_, _≤_, _<_}
+use mathlib.Core.Path.{_≡_, refl}
+use mathlib.Core.Bool.{Bool, true, false, cond}
+use mathlib.Core.List.{List}
+use native.Mathlib.Omega.{arith}
+use lib.ListN.{length, getD, take}
+use lib.Seq.{length-take-le, getD-take}
+use borrow.Author.Tests.{ltb-true, lt-ltb, le-ltb, lt-leb, le-leb, eq-eqb, ne-eqb}
+use Rattle.convention.specs.declared.Head.{Head}
+use Rattle.convention.specs.declared.Offset.{Offset}
+use Rattle.convention.specs.declared.SheetKind.{SheetKind}
+use Rattle.convention.specs.declared.Placement.{Placement}
+use Rattle.convention.specs.declared.Placement.the-variants.{Registers, Stack, Nowhere}
+use Rattle.convention.specs.declared.ByRules.{ByRules}
+use Rattle.convention.specs.Offsets.{leastOffset}
+use Rattle.convention.specs.Promised.{HeadRead, SheetKindRead}
+use Rattle.convention.specs.Sheets.{mayUseStack}
+use Rattle.convention.specs.Rules.{markRuns, leftBefore, leftOf, startsOf, needed, fits, startTaken, stackBytes, stackOffset}
+use Rattle.convention.specs.Rules.{rulesPlace, placeTaken, placeP, rulesAfter}
+use Rattle.places.specs.Ends.{runEnd, stackEnd}
+use Rattle.convention.proofs.Offsets.{least-lt, width-pos, modulus-pos, modulus-most}
+use Rattle.placing.specs.Asked.{stepMost, RunsWithin, RunsTried, StepAsks, Searched, Found}
+use Rattle.placing.proofs.Search.{left-le}
+
+-- What holds of the registers that are free, of the stack and of nowhere holds of the place by the rules.
+pub place-cases : (w : ℕ) (k : SheetKind) (s : ByRules) (P : Placement → Type 0)
+    → (leftOf w k (s .unavailable) < length (startsOf k) → P (Registers (record { 0 = startTaken w k (s .unavailable) }) (needed w k)))
+    → P (Stack (record { 0 = stackOffset k (s .p .0) }) (stackBytes (k .size))) → P Nowhere → P (rulesPlace w k s)
+unfolding rulesPlace
+place-cases w k s P registers stack nowhere = go (fits w k (s .unavailable)) refl (mayUseStack k)
+  where
+    go : (fit : Bool) → fits w k (s .unavailable) ≡ fit → (allowed : Bool)
+        → P (cond fit (Registers (record { 0 = startTaken w k (s .unavailable) }) (needed w k))
+        (cond allowed (Stack (record { 0 = stackOffset k (s .p .0) }) (stackBytes (k .size))) Nowhere))
+    go true e allowed = registers (ltb-true _ _ e)
+    go false e true = stack
+    go false e false = nowhere
+
+module _ (h : Head) (k : SheetKind) (head : HeadRead h) (kind : SheetKindRead h k) where
+  -- A register has a width.
+  pub wide : 0 < h .width
+  wide = width-pos (h .width) (head .width)
+
+  starts-count : length (startsOf k) ≡ k .tries
+  starts-count = length-take-le (k .tries) (k .starts) (omega (arith, kind .tries, kind .sixteen))
+
+  -- The runs of the starts lie within the sixteen, and so do those of the starts that were left.
+  pub runs-within : (count : ℕ) → count ≡ needed (h .width) k → RunsWithin k count
+  runs-within count e = record {
+    tries = kind .tries;
+    sixteen = kind .sixteen;
+    starts = λ i l. rw e (omega (arith, kind .starts i l, head .registers));
+  }
+
+  pub runs-tried : (taken : List Bool) (count left : ℕ) → count ≡ needed (h .width) k → left ≡ leftOf (h .width) k taken → RunsTried k count left
+  runs-tried taken count left e f = record {
+    runs = runs-within count e;
+    tried = rw f (omega (arith, starts-count, left-le taken (needed (h .width) k) (startsOf k)));
+  }
+
+  -- An alignment is not 0, and there is room for an aligned offset.
+  pub aligned : 0 < k .alignment
+  aligned = modulus-pos (k .alignment) (kind .shape .alignment)
+
+  pub offset-room : (p room : ℕ) → p + stepMost < room → p + k .alignment < room
+  offset-room p room l = omega (arith, modulus-most (k .alignment) (kind .shape .alignment))
+
+  -- The place's run lies within the sixteen, and its stack bytes end at most `stepMost` behind p.
+  pub run-end : (s : ByRules) (place : Placement) → place ≡ rulesPlace (h .width) k s → runEnd place ≤ 16
+  run-end s place e = rw e (place-cases (h .width) k s (λ x. runEnd x ≤ 16) registers (omega arith) (omega arith))
+    where
+      registers : leftOf (h .width) k (s .unavailable) < length (startsOf k) → startTaken (h .width) k (s .unavailable) + needed (h .width) k ≤ 16
+      registers l =
+          let tried : leftOf (h .width) k (s .unavailable) < k .tries = omega (arith, starts-count) in
+          rw (getD-take (k .tries) (k .starts) _ 0 tried) (runs-within _ refl .starts _ tried)
+
+  pub stack-end : (s : ByRules) → stackEnd (rulesPlace (h .width) k s) ≤ s .p .0 + stepMost
+  stack-end s = place-cases (h .width) k s (λ x. stackEnd x ≤ s .p .0 + stepMost) (λ l. omega arith) stack (omega arith)
+    where
+      stack : stackOffset k (s .p .0) + k .size ≤ s .p .0 + stepMost
+      stack = omega (arith, kind .shape .size, modulus-most (k .alignment) (kind .shape .alignment), least-lt (k .alignment) 0 (s .p .0) aligned)
+
+  pub stack-room : (s : ByRules) (place : Placement) (room : ℕ) → place ≡ rulesPlace (h .width) k s → s .p .0 + stepMost < room → stackEnd place < room
+  stack-room s place room e l = rw e (omega (arith, stack-end s))
+
+-- What the search answers is how many starts were left.
+pub searched : (h : Head) (k : SheetKind) (s : ByRules) (count left : ℕ) → StepAsks h k s → count ≡ needed (h .width) k
+    → left ≡ leftBefore (s .unavailable) count (startsOf k) → Searched h k s left
+searched h k s count left asks e f = record { asked = asks; tried = rw (← e) f }
+
+-- The place: registers, stack or nowhere, by how many starts were left and whether the stack is allowed.
+module _ (h : Head) (k : SheetKind) (s : ByRules) (left : ℕ) (found : Searched h k s left) where
+  count-starts : length (startsOf k) ≡ k .tries
+  count-starts = starts-count h k (found .asked .head) (found .asked .kind)
+
+  pub place-registers : (count : ℕ) → left < k .tries → count ≡ needed (h .width) k
+      → Registers (record { 0 = getD (k .starts) left 0 }) count ≡ rulesPlace (h .width) k s
+  unfolding rulesPlace
+  place-registers count l e = rw (← found .tried, count-starts, lt-ltb left (k .tries) l, getD-take (k .tries) (k .starts) left 0 l, e)
+
+  pub place-stack : (offset : Offset) → k .tries ≤ left → k .flags % 2 ≡ 1 → offset .0 ≡ leastOffset (k .alignment) 0 (s .p .0)
+      → Stack offset (k .size) ≡ rulesPlace (h .width) k s
+  unfolding rulesPlace
+  place-stack offset l f e = rw (← found .tried, count-starts, le-ltb left (k .tries) l, eq-eqb _ _ f, ← e)
+
+  pub place-nowhere : k .tries ≤ left → (k .flags % 2 ≡ 1 → ⊥) → Nowhere ≡ rulesPlace (h .width) k s
+  unfolding rulesPlace
+  place-nowhere l f = rw (← found .tried, count-starts, le-ltb left (k .tries) l, ne-eqb _ _ f)
+
+-- What comes behind the place: what it takes, and the runs of the starts that were left too where the kind closes.
+module _ (h : Head) (k : SheetKind) (s : ByRules) (left : ℕ) (place : Placement) (found : Found h k s left place) (taken : List Bool) (p : Offset)
+    (et : taken ≡ placeTaken place (s .unavailable)) (ep : p ≡ placeP place (s .p)) where
+  pub after-open : k .flags < 2 → record { unavailable = taken; p = p } ≡ rulesAfter (h .width) k s
+  unfolding rulesAfter
+  after-open l = rw (lt-leb 2 (k .flags) l, ← found .placed, et, ep)
+
+  pub after-closed : (count : ℕ) (closed : List Bool) → 2 ≤ k .flags → count ≡ needed (h .width) k
+      → closed ≡ markRuns taken count (take left (startsOf k)) → record { unavailable = closed; p = p } ≡ rulesAfter (h .width) k s
+  unfolding rulesAfter
+  after-closed count closed l e ec = rw (le-leb 2 (k .flags) l, ← found .placed, ← found .searched .tried, ← e, ec, et, ep)
+
+-- p grows by at most `stepMost`.
+pub p-grows : (h : Head) (k : SheetKind) (s : ByRules) → HeadRead h → SheetKindRead h k
+    → rulesAfter (h .width) k s .p .0 ≤ s .p .0 + stepMost
+unfolding rulesAfter
+p-grows h k s head kind = behind (rulesPlace (h .width) k s) (stack-end h k head kind s)
+  where
+    behind : (place : Placement) → stackEnd place ≤ s .p .0 + stepMost → placeP place (s .p) .0 ≤ s .p .0 + stepMost
+    behind (Registers first count) l = omega arith
+    behind (Stack offset count) l = l
+    behind Nowhere l = omega arith

@@ -1,0 +1,58 @@
+-- `left_before`: from each start on, what is left is counted as in the whole; the first run that is free ends the count.
+use Rattle.placing.proofs.Search.{start-within, left-end, left-hit, left-on}
+use Rattle.convention.specs.Rules.{leftBefore, startsOf}
+use lib.ListN.{drop}
+use mathlib.Core.Path.{_≡_}
+use Prim.Native.Nat.{_+_, _-_, _≤_}
+use borrow.Author.Needs.{needs}
+use Rattle.placing.proofs.left_before.Statement.{statement}
+use Rattle.placing.proofs.left_before.Tie as tie
+
+abbrev Inv-loop : tie.InvT-loop
+Inv-loop taken count kind i₀ i = (i ≤ kind .tries) × (i + leftBefore taken count (drop i (startsOf kind)) ≡ leftBefore taken count (startsOf kind))
+
+abbrev μ-loop : tie.MeasureT-loop
+μ-loop taken count kind i₀ i = kind .tries - i
+
+loop-holds : tie.Need-loop-holds Inv-loop μ-loop
+loop-holds c = search needs
+
+cast-start : tie.Need-cast-start Inv-loop μ-loop
+cast-start c = search needs
+
+element-copy-out-start : tie.Need-element-copy-out-start Inv-loop μ-loop
+element-copy-out-start c = search needs
+
+free-run-requires : tie.Need-free-run-requires Inv-loop μ-loop
+free-run-requires c κs = search (start-within, needs)
+
+returns : tie.Need-returns Inv-loop μ-loop
+returns c = search (left-hit, needs)
+
+add-i : tie.Need-add-i Inv-loop μ-loop
+add-i c = search needs
+
+loop-less : tie.Need-loop-less Inv-loop μ-loop
+loop-less c = search needs
+
+loop-again : tie.Need-loop-again Inv-loop μ-loop
+loop-again c = (search needs, search (left-on, needs))
+
+returns-2 : tie.Need-returns-2 Inv-loop μ-loop
+returns-2 c = search (left-end, needs)
+
+pub left-before-spec : {M : Type 1} → statement M
+left-before-spec =
+    tie.close
+    (tie.spec
+    Inv-loop
+    μ-loop
+    loop-holds
+    cast-start
+    element-copy-out-start
+    free-run-requires
+    returns
+    add-i
+    loop-less
+    loop-again
+    returns-2)

@@ -1,0 +1,61 @@
+-- `walk`: at each argument, what is left of the list answers the whole, and p leaves room for one more step.
+use Rattle.placing.proofs.Lists.{standing-begin, next-asks, standing-on, standing-hit, standing-end}
+use Rattle.placing.specs.Asked.{Standing}
+use lib.ListN.{length}
+use Prim.Native.Nat.{_-_}
+use borrow.Author.Needs.{needs}
+use Rattle.placing.proofs.walk.Statement.{statement}
+use Rattle.placing.proofs.walk.Tie as tie
+
+abbrev Inv-loop : tie.InvT-loop
+Inv-loop sheet list s₀ i₀ s i = Standing sheet list s i
+
+abbrev μ-loop : tie.MeasureT-loop
+μ-loop sheet list s₀ i₀ s i = length list - i
+
+begin-requires : tie.Need-begin-requires Inv-loop μ-loop
+begin-requires c κs = search needs
+
+loop-holds : tie.Need-loop-holds Inv-loop μ-loop
+loop-holds c = search (standing-begin, needs)
+
+shared-slice-read-argument : tie.Need-shared-slice-read-argument Inv-loop μ-loop
+shared-slice-read-argument c = search needs
+
+argument-requires : tie.Need-argument-requires Inv-loop μ-loop
+argument-requires c κs = search (next-asks, needs)
+
+fault-of-requires : tie.Need-fault-of-requires Inv-loop μ-loop
+fault-of-requires c κs = search needs
+
+returns : tie.Need-returns Inv-loop μ-loop
+returns c = search (standing-hit, needs)
+
+add-i : tie.Need-add-i Inv-loop μ-loop
+add-i c = search needs
+
+loop-less : tie.Need-loop-less Inv-loop μ-loop
+loop-less c = search needs
+
+loop-again : tie.Need-loop-again Inv-loop μ-loop
+loop-again c = search (standing-on, needs)
+
+returns-2 : tie.Need-returns-2 Inv-loop μ-loop
+returns-2 c = search (standing-end, needs)
+
+pub walk-spec : {M : Type 1} → statement M
+walk-spec =
+    tie.close
+    (tie.spec
+    Inv-loop
+    μ-loop
+    begin-requires
+    loop-holds
+    shared-slice-read-argument
+    argument-requires
+    fault-of-requires
+    returns
+    add-i
+    loop-less
+    loop-again
+    returns-2)

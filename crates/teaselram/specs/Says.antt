@@ -1,0 +1,52 @@
+-- What the structs of the boundary say: for each answer of crates/convention, 01's number and values, field by field.
+use Prim.Native.Nat.{ℕ, zero, suc, _<_}
+use mathlib.Core.List.{List}
+use Rattle.convention.specs.declared.Placing.{Placing}
+use Rattle.convention.specs.declared.Placing.the-variants.{Placed, Unknown, Faulty}
+use Rattle.convention.specs.declared.SheetAnswer.{SheetAnswer}
+use Rattle.convention.specs.declared.TableAnswer.{TableAnswer}
+use Rattle.convention.specs.Numbers.{Said, refusal, readingNo, placingSays}
+use Rattle.convention.specs.Fields.{headOf}
+use Rattle.convention.specs.Tables.{rowNo, rowAt, rowLength}
+use Rattle.teaselram.specs.declared.Answer.{Answer}
+use Rattle.teaselram.specs.declared.HeadAnswer.{HeadAnswer}
+
+-- The fields of `teaselram_answer`.
+abbrev pub answerOf : Said → Answer
+answerOf said = record { number = said .number; fault = said .fault; count = said .count; value = said .value }
+
+-- The fields of `teaselram_head`: of a sheet, and of a table.
+abbrev pub sheetSays : SheetAnswer → HeadAnswer
+sheetSays a = record {
+  number = readingNo (a .reading);
+  registers = a .sheet .head .registers;
+  width = a .sheet .head .width;
+  modulus = a .sheet .head .modulus;
+  kinds = a .sheet .head .kinds;
+  zero = 0;
+  states = 0;
+}
+
+abbrev pub tableSays : TableAnswer → HeadAnswer
+tableSays a = record {
+  number = readingNo (a .reading);
+  registers = a .table .head .registers;
+  width = a .table .head .width;
+  modulus = a .table .head .modulus;
+  kinds = a .table .head .kinds;
+  zero = 0;
+  states = a .table .states;
+}
+
+-- A row: how long it is, and where it starts in the table; or the refusal's number.
+abbrev pub rowGiven : ℕ → Said → Said
+rowGiven zero said = said
+rowGiven (suc number) said = refusal (suc number)
+
+unfoldable pub rowSays : ℕ → List ℕ → ℕ → Said
+rowSays limit t state =
+    rowGiven (rowNo limit t state) (record { number = 0; fault = 0; count = rowLength (headOf t .kinds); value = rowAt (headOf t .kinds) state })
+
+-- The count of an answer of placing fits its two bytes.
+pub record CountFits (placing : Placing) : Type 0 where
+  pub fits : placingSays placing .count < 65536
