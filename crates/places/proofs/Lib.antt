@@ -5,3 +5,4 @@ pub mod Records
 pub mod Runs
 pub mod Walks
 pub mod Apart
+pub mod Accepted

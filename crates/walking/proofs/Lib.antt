@@ -1,3 +1,4 @@
 pub mod Steps
 pub mod Lists
 pub mod Calls
+pub mod Given

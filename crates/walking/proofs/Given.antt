@@ -1,0 +1,169 @@
+-- What placing by a table gives where no step is faulty: places that are right for their kinds and apart from one another, and a p within bounds.
+use Prim.Native.Nat.{ℕ, zero, suc, _+_, _*_, _%_, _≤_, _<_}
+use mathlib.Core.Path.{_≡_, refl, _∙_}
+use mathlib.Core.Logic.{inl, inr}
+use mathlib.Core.Bool.{Bool, true, false}
+use mathlib.Core.List.{List, [], _∷_}
+use native.Mathlib.Nat.{le-of-suc-le-suc, le-trans}
+use native.Mathlib.Omega.{arith}
+use lib.Dec.{eqb, lit<}
+use lib.ListN.{length, getD}
+use borrow.Author.Tests.{leb-true, eqb-true}
+use Rattle.convention.specs.declared.Head.{Head}
+use Rattle.convention.specs.declared.TableKind.{TableKind}
+use Rattle.convention.specs.declared.Table.{Table}
+use Rattle.convention.specs.declared.Transition.{Transition}
+use Rattle.convention.specs.declared.Offset.{Offset}
+use Rattle.convention.specs.declared.ByTable.{ByTable}
+use Rattle.convention.specs.declared.Placement.{Placement}
+use Rattle.convention.specs.declared.Placement.the-variants.{Nowhere}
+use Rattle.convention.specs.declared.Placing.the-variants.{Placed}
+use Rattle.convention.specs.Numbers.{stateLimit, argumentLimit, unless}
+use Rattle.convention.specs.Tables.{tableNo, tableKind, transition, isTransition, tableOf}
+use Rattle.convention.specs.Rules.{freeRun}
+use Rattle.convention.specs.Lists.{faultFrom, stateFrom, placesFrom}
+use Rattle.convention.specs.Walked.{tablePlace, tableFault, tableAfter, byTable, placeByTable}
+use Rattle.convention.specs.Judged.{KindsBelow}
+use Rattle.convention.specs.Promised.{TableRead, HeadRead, ShapeRead}
+use Rattle.convention.proofs.Numbers.{or-zero, unless-zero}
+use Rattle.convention.proofs.Offsets.{least-ge, offset-aligned, divides}
+use Rattle.convention.proofs.Tables.{table-read, transition-registers, transition-residue, transition-next}
+use Rattle.convention.proofs.Runs.{either}
+use Rattle.places.specs.Ends.{runEnd}
+use Rattle.places.proofs.Accepted.{accepted}
+use Rattle.places.proofs.Apart.{Apart, FreeIn, FromP, StepGives, place-length, apart}
+use Rattle.walking.specs.Right.{Right}
+use Rattle.walking.proofs.Steps.{reach}
+
+-- A step without a fault, with registers and with the stack.
+module _ (h : Head) (kind : TableKind) (x : Transition) (given : List Bool) (e : tableFault h kind x given ≡ 0) where
+  registers-clean : eqb (x .form) 1 ≡ true → (freeRun given (x .a) (x .b) ≡ true) × (kind .size ≤ x .b * h .width)
+  unfolding tableFault
+  registers-clean f =
+      let both = or-zero (unless (freeRun given (x .a) (x .b)) 2) _ (rw f at e) in
+      (unless-zero _ 2 (lit< tt) (both .0), leb-true _ _ (unless-zero _ 3 (lit< tt) (both .1)))
+
+  stack-clean : eqb (x .form) 1 ≡ false → eqb (x .form) 2 ≡ true → (x .b ≡ kind .size) × (x .a % kind .alignment ≡ 0)
+  unfolding tableFault
+  stack-clean f g =
+      let both = or-zero _ _ (rw (f, g) at e) in
+      (eqb-true _ _ (unless-zero _ 3 (lit< tt) (both .0)), eqb-true _ 0 (unless-zero _ 4 (lit< tt) (both .1)))
+
+  -- Its place is right, its registers are free, and its stack bytes begin at p or behind.
+  step-right : HeadRead h → ShapeRead h (kind .size) (kind .alignment) → (x .form ≡ 2 → x .a < h .modulus)
+      → (p : ℕ) → Right h kind (tablePlace h x p)
+  unfolding Right tableFault
+  step-right head shape residue p = elim (either (eqb (x .form) 1)) [
+    | inl f ↦ rw f (registers-clean f .1)
+    | inr f ↦ elim (either (eqb (x .form) 2)) [
+      | inl g ↦
+          let (size, multiple) = stack-clean f g in
+          let whole = divides (kind .alignment) (h .modulus) (shape .alignment) (head .modulus) (shape .within) in
+          rw (f, g) (size, offset-aligned (kind .alignment) (h .modulus) (x .a) p (residue (eqb-true _ 2 g)) whole multiple)
+      | inr g ↦ absurd (omega (arith, rw (f, g) at e))
+    ]
+  ]
+
+  step-free : (p : ℕ) → FreeIn given (tablePlace h x p)
+  step-free p = elim (either (eqb (x .form) 1)) [
+    | inl f ↦ rw f (registers-clean f .0)
+    | inr f ↦ elim (either (eqb (x .form) 2)) [ inl g ↦ rw (f, g) tt | inr g ↦ rw (f, g) tt ]
+  ]
+
+step-from : (h : Head) (x : Transition) (p : Offset) → FromP p (tablePlace h x (p .0))
+step-from h x p = elim (either (eqb (x .form) 1)) [
+  | inl f ↦ rw f tt
+  | inr f ↦ elim (either (eqb (x .form) 2)) [ inl g ↦ rw (f, g) (least-ge (h .modulus) (x .a) (p .0)) | inr g ↦ rw (f, g) tt ]
+]
+
+step-ends : (h : Head) (x : Transition) (p : ℕ) → (x .form ≡ 1 → x .a + x .b ≤ 16) → runEnd (tablePlace h x p) ≤ 16
+step-ends h x p within = elim (either (eqb (x .form) 1)) [
+  | inl f ↦ rw f (within (eqb-true _ 1 f))
+  | inr f ↦ elim (either (eqb (x .form) 2)) [ inl g ↦ rw (f, g) (omega arith) | inr g ↦ rw (f, g) (omega arith) ]
+]
+
+-- A state of the walk: one of the table's, with sixteen flags.
+record Good (table : Table) (s : ByTable) : Type 0 where
+  known : s .state < table .states
+  sixteen : length (s .given) ≡ 16
+
+module _ (limit : ℕ) (table : Table) (t : List ℕ) (read : TableRead limit table t) where
+  -- One argument, from such a state.
+  module _ (s : ByTable) (k : ℕ) (good : Good table s) (below : k < table .head .kinds) (e : byTable table t .fault s k ≡ 0) where
+    abbrev here : Transition
+    here = transition table t (s .state) k
+
+    right : isTransition (table .head) (table .states) here ≡ true
+    right = read .transition (s .state) k (good .known) below
+
+    table-gives : StepGives (byTable table t) (λ s. s .given) (Good table) s k
+    unfolding tableAfter
+    table-gives = record {
+      keeps = record {
+        known = transition-next (table .head) (table .states) here right (read .some);
+        sixteen = place-length (byTable table t .place s k) (s .given) ∙ good .sixteen;
+      };
+      within = rw (good .sixteen) (step-ends (table .head) here (s .p .0) (λ f. le-trans (transition-registers (table .head) (table .states) here right f) (read .head .registers)));
+      free = step-free (table .head) (tableKind table k) here (s .given) e (s .p .0);
+      marks = λ r m. m;
+      above = step-from (table .head) here (s .p);
+      moves = refl;
+    }
+
+    here-right : Right (table .head) (tableKind table k) (byTable table t .place s k)
+    here-right =
+        step-right (table .head) (tableKind table k) here (s .given) e (read .head) (read .kind k below)
+        (transition-residue (table .head) (table .states) here right) (s .p .0)
+
+    here-reach : byTable table t .after s k .p .0 ≤ s .p .0 + 79
+    here-reach = reach (table .head) (tableKind table k) here s (read .head) (read .kind k below .size) e
+
+  begin-good : Good table (byTable table t .begin)
+  begin-good = record { known = read .some; sixteen = refl }
+
+  each-right : (s : ByTable) (ks : List ℕ) → Good table s → KindsBelow (table .head .kinds) ks → faultFrom (byTable table t) s ks ≡ 0
+      → (i : ℕ) → i < length ks → Right (table .head) (tableKind table (getD ks i 0)) (getD (placesFrom (byTable table t) s ks) i Nowhere)
+  unfolding KindsBelow faultFrom placesFrom
+  each-right s [] good below e i h = absurd (omega arith)
+  each-right s (k ∷ ks) good below e zero h = here-right s k good (below .0) (or-zero _ _ e .0)
+  each-right s (k ∷ ks) good below e (suc i) h =
+      let both = or-zero (byTable table t .fault s k) _ e in
+      each-right _ ks (table-gives s k good (below .0) (both .0) .keeps) (below .1) (both .1) i (le-of-suc-le-suc h)
+
+  p-low : (s : ByTable) (ks : List ℕ) → Good table s → KindsBelow (table .head .kinds) ks → faultFrom (byTable table t) s ks ≡ 0
+      → stateFrom (byTable table t) s ks .p .0 ≤ s .p .0 + 79 * length ks
+  unfolding KindsBelow faultFrom stateFrom
+  p-low s [] good below e = omega arith
+  p-low s (k ∷ ks) good below e =
+      let both = or-zero (byTable table t .fault s k) _ e in
+      omega (
+        arith,
+        here-reach s k good (below .0) (both .0),
+        p-low (byTable table t .after s k) ks (table-gives s k good (below .0) (both .0) .keeps) (below .1) (both .1),
+      )
+
+  -- A list of known kinds without a faulty step.
+  module _ (ks : List ℕ) (below : KindsBelow (table .head .kinds) ks) (e : faultFrom (byTable table t) (byTable table t .begin) ks ≡ 0) where
+    abbrev places : List Placement
+    places = placesFrom (byTable table t) (byTable table t .begin) ks
+
+    -- Each argument has a place that is right for its kind: on the stack, its size at a multiple of its alignment.
+    pub table-right : (i : ℕ) → i < length ks → Right (table .head) (tableKind table (getD ks i 0)) (getD places i Nowhere)
+    table-right = each-right (byTable table t .begin) ks begin-good below e
+
+    -- No two arguments share a register or a stack byte.
+    pub table-apart : (i j : ℕ) → i < j → j < length ks → Apart (getD places i Nowhere) (getD places j Nowhere)
+    table-apart =
+        apart (byTable table t) (λ s. s .given) (Good table) (table .head .kinds) (λ s k good h f. table-gives s k good h f)
+        (byTable table t .begin) ks begin-good below e
+
+    -- The final p.
+    pub table-final : stateFrom (byTable table t) (byTable table t .begin) ks .p .0 ≤ 79 * length ks
+    table-final = omega (arith, p-low (byTable table t .begin) ks begin-good below e)
+
+-- So of a list that a call has placed: the p that is answered is at most 31,600, which its four bytes hold.
+pub answer-most : (t ks : List ℕ) (room n : ℕ) (p : Offset) → placeByTable stateLimit argumentLimit t ks room ≡ Placed n p → p .0 ≤ 31600
+unfolding placeByTable
+answer-most t ks room n p placed =
+    let means = accepted n p argumentLimit (tableNo stateLimit t) (tableOf t .head .kinds) (byTable (tableOf t) t) ks room placed in
+    rw (← means .final) (omega (arith, table-final stateLimit (tableOf t) t (table-read stateLimit t (means .read)) ks (means .below) (means .clean), means .short))
