@@ -4,30 +4,26 @@ use mathlib.Core.Path.{_≡_, refl, _∙_}
 use mathlib.Core.Bool.{Bool, true, false, cond}
 use mathlib.Core.List.{List, [], _∷_}
 use native.Mathlib.Omega.{arith}
-use lib.Dec.{ltb}
 use lib.ListN.{length, getD}
-use borrow.Author.Tests.{ltb-false, leb-true}
 use Rattle.convention.specs.declared.Offset.{Offset}
 use Rattle.convention.specs.declared.SheetKind.{SheetKind}
 use Rattle.convention.specs.declared.Placement.{Placement}
 use Rattle.convention.specs.declared.Placement.the-variants.{Registers, Stack, Nowhere}
 use Rattle.convention.specs.declared.Sheet.{Sheet}
 use Rattle.convention.specs.declared.ByRules.{ByRules}
-use Rattle.convention.specs.declared.Placing.{Placing}
-use Rattle.convention.specs.declared.Placing.the-variants.{Placed, Unknown}
+use Rattle.convention.specs.declared.Placing.the-variants.{Placed}
 use Rattle.convention.specs.Numbers.{argumentLimit}
 use Rattle.convention.specs.Sheets.{isClosing, sheetNo, sheetOf, sheetKind}
-use Rattle.convention.specs.Lists.{Steps, faultFrom, stopFrom, stateFrom, placesFrom, unknownAt, walkAnswer, placingAnswer, placing}
+use Rattle.convention.specs.Lists.{faultFrom, stateFrom, placesFrom}
 use Rattle.convention.specs.Rules.{markRun, markRuns, startsOf, needed, rulesPlace, rulesAfter, byRules, placeByRules}
 use Rattle.convention.specs.Judged.{KindsBelow}
 use Rattle.convention.specs.Promised.{SheetRead}
-use Rattle.convention.proofs.Numbers.{or-zero, unless-zero}
-use Rattle.convention.proofs.Lists.{unknown-le, known-below}
 use Rattle.convention.proofs.Bytes.{four-read}
 use Rattle.convention.proofs.Sheets.{sheet-read}
 use Rattle.convention.proofs.Offsets.{least-ge, least-is}
 use Rattle.places.specs.Ends.{stackEnd}
 use Rattle.places.proofs.Runs.{length-mark}
+use Rattle.places.proofs.Accepted.{Accepted, accepted}
 use Rattle.places.proofs.Apart.{Apart, FreeIn, FromP, StepGives, mark-stays, place-length, apart}
 use Rattle.placing.specs.Asked.{stepMost}
 use Rattle.placing.proofs.Search.{left-free}
@@ -142,45 +138,6 @@ module _ (sheet : Sheet) (read : SheetRead sheet) where
       pub offset-read : (i : ℕ) (offset : Offset) (count : ℕ) → getD (places sheet ks) i Nowhere ≡ Stack offset count
           → 2 ^ 24 * (offset .0 / 2 ^ 24 % 256) + 2 ^ 16 * (offset .0 / 2 ^ 16 % 256) + 256 * (offset .0 / 256 % 256) + offset .0 % 256 ≡ offset .0
       offset-read i offset count e = four-read (offset .0) (omega (arith, offset-most i offset count e))
-
--- Success, over any way of placing, means that nothing was refused.
-record Accepted (limit number m : ℕ) (M : Steps) (ks : List ℕ) (p : Offset) : Type 0 where
-  read : number ≡ 0
-  short : length ks ≤ limit
-  below : KindsBelow m ks
-  clean : faultFrom M (M .begin) ks ≡ 0
-  final : M .p (stateFrom M (M .begin) ks) ≡ p
-
--- What it says of the number, of unknown kinds and of the walk; and so of all.
-module _ (n : ℕ) (p : Offset) where
-  no-number : (number m : ℕ) (M : Steps) (ks : List ℕ) → placingAnswer number m M ks ≡ Placed n p → number ≡ 0
-  no-number zero m M ks e = refl
-  no-number (suc number) m M ks e = absurd (let z : _≡_ {A = ℕ} 0 1 = cc in omega arith)
-
-  none-unknown : (unknown : Bool) (at : ℕ) (walked : Placing) → cond unknown (Unknown at) walked ≡ Placed n p
-      → (unknown ≡ false) × (walked ≡ Placed n p)
-  none-unknown true at walked e = absurd (let z : _≡_ {A = ℕ} 0 1 = cc in omega arith)
-  none-unknown false at walked e = (refl, e)
-
-  no-fault : (fault stop count : ℕ) (p′ : Offset) → walkAnswer fault stop count p′ ≡ Placed n p → (fault ≡ 0) × (p′ ≡ p)
-  no-fault zero stop count p′ e = (refl, cc)
-  no-fault (suc fault) stop count p′ e = absurd (let z : _≡_ {A = ℕ} 0 1 = cc in omega arith)
-
-  accepted : (limit number m : ℕ) (M : Steps) (ks : List ℕ) (room : ℕ) → placing limit number m M ks room ≡ Placed n p
-      → Accepted limit number m M ks p
-  unfolding placing
-  accepted limit number m M ks room e =
-      let none = no-number _ m M ks e in
-      let both = or-zero number _ none in
-      let known = none-unknown (ltb (unknownAt m ks) (length ks)) (unknownAt m ks) _ (rw none at e) in
-      let walked = no-fault (faultFrom M (M .begin) ks) (stopFrom M (M .begin) ks) (length ks) (M .p (stateFrom M (M .begin) ks)) (known .1) in
-      record {
-        read = both .0;
-        short = leb-true (length ks) limit (unless-zero _ 8 (omega arith) (or-zero _ _ (both .1) .0));
-        below = known-below m ks (omega (arith, unknown-le m ks, ltb-false (unknownAt m ks) (length ks) (known .0)));
-        clean = walked .0;
-        final = walked .1;
-      }
 
 -- So of a list that a call has placed.
 module _ (s ks : List ℕ) (room n : ℕ) (p : Offset) (placed : placeByRules argumentLimit s ks room ≡ Placed n p) where

@@ -69,5 +69,6 @@ module _ (sheet : Sheet) (ks : List ℕ) where
   pub writing-begin : (before : List ℕ) (s : ByRules) → s ≡ rulesBegin → Writing sheet ks before s 0 before
   writing-begin before s e = rw e (record { writes = write-begin (byRules sheet) ks before; reach = omega arith; long = refl })
 
-  pub writing-end : (before out : List ℕ) (s : ByRules) (i : ℕ) → Writing sheet ks before s i out → length ks ≤ i → out ≡ recordsBefore (byRules sheet) ks before
+  pub writing-end : (before out : List ℕ) (s : ByRules) (i : ℕ) → Writing sheet ks before s i out → length ks ≤ i
+      → out ≡ recordsBefore (byRules sheet) ks before
   writing-end before out s i writing h = write-end (byRules sheet) ks before out s i (writing .writes) h
