@@ -15,15 +15,9 @@ use Rattle.convention.specs.Rules.{freeRun, markRun, placeTaken, placeP}
 use Rattle.convention.specs.Judged.{KindsBelow}
 use Rattle.convention.proofs.Numbers.{or-zero}
 use Rattle.convention.proofs.Runs.{free-each, mark-in}
+use Rattle.places.specs.Apart.{Apart}
 use Rattle.places.specs.Ends.{runEnd}
 use Rattle.places.proofs.Runs.{length-mark}
-
--- The places of an earlier and of a later argument: where both are registers, their runs have none in common; where both are stack, the later
--- bytes lie behind the earlier ones.
-pub record Apart (a b : Placement) : Type 0 where
-  pub registers : (f g : Reg) (c d : ℕ) → a ≡ Registers f c → b ≡ Registers g d
-      → (r : ℕ) → f .0 ≤ r → r < f .0 + c → g .0 ≤ r → r < g .0 + d → ⊥
-  pub bytes : (o q : Offset) (c d : ℕ) → a ≡ Stack o c → b ≡ Stack q d → o .0 + c ≤ q .0
 
 -- A place's registers are free, and its stack bytes do not begin before p.
 abbrev pub FreeIn : List Bool → Placement → Type 0

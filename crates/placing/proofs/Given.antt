@@ -24,7 +24,8 @@ use Rattle.convention.proofs.Offsets.{least-ge, least-is}
 use Rattle.places.specs.Ends.{stackEnd}
 use Rattle.places.proofs.Runs.{length-mark}
 use Rattle.places.proofs.Accepted.{Accepted, accepted}
-use Rattle.places.proofs.Apart.{Apart, FreeIn, FromP, StepGives, mark-stays, place-length, apart}
+use Rattle.places.specs.Apart.{Apart}
+use Rattle.places.proofs.Apart.{FreeIn, FromP, StepGives, mark-stays, place-length, apart}
 use Rattle.placing.specs.Asked.{stepMost}
 use Rattle.placing.proofs.Search.{left-free}
 use Rattle.placing.proofs.Steps.{place-cases, aligned, run-end, stack-end, p-grows}

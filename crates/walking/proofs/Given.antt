@@ -31,7 +31,8 @@ use Rattle.convention.proofs.Tables.{table-read, transition-registers, transiti
 use Rattle.convention.proofs.Runs.{either}
 use Rattle.places.specs.Ends.{runEnd}
 use Rattle.places.proofs.Accepted.{accepted}
-use Rattle.places.proofs.Apart.{Apart, FreeIn, FromP, StepGives, place-length, apart}
+use Rattle.places.specs.Apart.{Apart}
+use Rattle.places.proofs.Apart.{FreeIn, FromP, StepGives, place-length, apart}
 use Rattle.walking.specs.Right.{Right}
 use Rattle.walking.proofs.Steps.{reach}
 

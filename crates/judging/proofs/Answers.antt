@@ -1,0 +1,143 @@
+-- How the answer comes together: clean where no register hits, the least list with the fault of its walk, or a refusal.
+use Prim.Native.Nat.{ℕ, _+_, _-_, _*_, _≤_, _<_}
+use native.Mathlib.Omega.{arith}
+use mathlib.Core.Path.{_≡_, refl, sym, _∙_}
+use mathlib.Core.List.{List, _++_}
+use lib.Dec.{lit<}
+use lib.ListN.{length, take, drop, length-append, length-drop}
+use lib.Seq.{length-slice, take-length, take-at, drop-at}
+use borrow.Author.Tests.{le-leb, lt-leb}
+use Rattle.convention.specs.declared.Offset.{Offset}
+use Rattle.convention.specs.declared.Table.{Table}
+use Rattle.convention.specs.declared.TableAnswer.{TableAnswer}
+use Rattle.convention.specs.declared.Reading.{Reading}
+use Rattle.convention.specs.declared.Judging.{Judging}
+use Rattle.convention.specs.declared.Judging.the-variants.{Clean, Fault}
+use Rattle.convention.specs.Numbers.{stateLimit, reading}
+use Rattle.convention.specs.Tables.{tableNo, tableOf, readTable}
+use Rattle.convention.specs.Walked.{byTable}
+use Rattle.convention.specs.Judged.{FaultyList, FirstFaulty, listFault, judgeNo, Judges}
+use Rattle.convention.specs.Promised.{TableRead}
+use Rattle.convention.proofs.Numbers.{or-here, read-number, refused-number, refused-some}
+use Rattle.convention.proofs.Lists.{below-known}
+use Rattle.convention.proofs.Tables.{table-read, table-given}
+use Rattle.places.specs.Walks.{WalkIs}
+use Rattle.walking.specs.Asked.{WalkAsks}
+use Rattle.judging.specs.Watched.{nodes, LeastBelow}
+use Rattle.judging.specs.Memory.{bestEnd, listAt}
+use Rattle.judging.specs.Found.{FindAsks, BestIs, JudgeAsks}
+use Rattle.judging.proofs.Verdict.{clean, least-first}
+use Rattle.judging.proofs.Finding.{slice-take}
+
+-- ---- a table that was read
+
+module _ (table : Table) (t before out : List ℕ) (asks : JudgeAsks table t before out) where
+  read : TableRead stateLimit (tableOf t) t
+  read = table-read stateLimit t (asks .right)
+
+  -- Nothing is refused.
+  number : judgeNo stateLimit t (length out) ≡ 0
+  unfolding judgeNo
+  number = rw (asks .right, ← asks .is, le-leb _ _ (asks .fits))
+
+  -- It can be searched.
+  pub judge-finds : FindAsks table t before
+  judge-finds =
+      let promised : TableRead stateLimit table t = rw (asks .is) read in
+      record {
+        read = promised;
+        room = record { some = omega (arith, promised .some); bytes = asks .room; words = omega (arith, promised .states) };
+      }
+
+  module _ (n : ℕ) (work : List ℕ) (best : BestIs table t before (table .head .registers + 1) n work) where
+    -- No register hits.
+    pub judge-clean : n ≡ 0 → Judges stateLimit t out Clean out
+    unfolding Judges
+    judge-clean z = (number, clean stateLimit t read .1 (rw (← asks .is) (best .none z)), refl)
+
+    -- Some register hits, and the least list was copied to the front of `out`.
+    module _ (some : n ≡ 0 → ⊥) (part out′ : List ℕ)
+        (ep : part ≡ take (bestEnd (nodes table) - (bestEnd (nodes table) - n)) (drop (bestEnd (nodes table) - n) work))
+        (eo : out′ ≡ take (length part) part ++ drop (length part) out) where
+      abbrev list : List ℕ
+      list = listAt work (bestEnd (nodes table)) n
+
+      long : length list ≡ n
+      long =
+          length-slice (bestEnd (nodes table) - n) (bestEnd (nodes table)) work (omega (arith, best .long, asks .room))
+          ∙ omega (arith, best .short)
+
+      front : out′ ≡ list ++ drop n out
+      front =
+          let same : part ≡ list = ep ∙ sym (slice-take (bestEnd (nodes table) - n) (bestEnd (nodes table)) work) in
+          eo ∙ rw (same, take-length list, long)
+
+      take-front : take n out′ ≡ list
+      take-front = rw front (take-at list (drop n out) n long)
+
+      drop-front : drop n out′ ≡ drop n out
+      drop-front = rw front (drop-at list (drop n out) n long)
+
+      long-front : length out′ ≡ length out
+      long-front = rw (front, length-append, long, length-drop) (omega (arith, best .short, asks .fits))
+
+      -- It is the first faulty list, by what was read.
+      first : FirstFaulty t (listFault t list) list
+      first = least-first stateLimit t read list (same (tableOf t) (asks .is) list (best .some (omega (arith, some))))
+        where
+          same : (table′ : Table) → table ≡ table′ → (ks : List ℕ) → LeastBelow table t (table .head .registers + 1) ks
+              → LeastBelow table′ t (table′ .head .registers + 1) ks
+          same table′ e ks l = rw e at l
+
+      -- It can be walked,
+      pub judge-counts : length (take n out′) ≡ n
+      judge-counts = rw take-front long
+
+      pub judge-walks : WalkAsks table t (take n out′)
+      unfolding FaultyList
+      judge-walks = record {
+        read = judge-finds .read;
+        known = rw (asks .is, take-front) (below-known (tableOf t .head .kinds) list (first .faulty .0));
+        few = rw judge-counts (omega (arith, best .short, judge-finds .read .states));
+      }
+
+      -- and has the fault that its walk has.
+      pub judge-fault : (fault stop : ℕ) (p : Offset) → WalkIs (byTable table t) (take n out′) fault stop p → Judges stateLimit t out (Fault fault n) out′
+      unfolding Judges
+      judge-fault fault stop p walked =
+          let says : fault ≡ listFault t list = rw (asks .is, take-front) at (walked .first) in
+          (number, rw (← asks .is) (best .short), rw (take-front, says) first, drop-front, long-front)
+
+-- ---- the reader's answer
+
+module _ (t : List ℕ) (a : TableAnswer) (ea : a ≡ readTable stateLimit t) (out : List ℕ) where
+  answered : reading (tableNo stateLimit t) ≡ a .reading
+  unfolding readTable
+  answered = rw ea
+
+  -- It refuses.
+  pub judge-refused : (n : ℕ) → a .reading ≡ Reading.Refused n → Judges stateLimit t out (Judging.Refused n) out
+  unfolding Judges judgeNo
+  judge-refused n e =
+      let is = refused-number (tableNo stateLimit t) n (answered ∙ e) in
+      let some : 0 < n = rw (← is) (refused-some (tableNo stateLimit t) n (answered ∙ e)) in
+      (rw is (or-here n _ some), some, refl)
+
+  -- It gives the table.
+  module _ (e : a .reading ≡ Reading.Read) where
+    right : tableNo stateLimit t ≡ 0
+    right = read-number (tableNo stateLimit t) (answered ∙ e)
+
+    is : a .table ≡ tableOf t
+    is = rw ea (table-given stateLimit t right)
+
+    -- There is too little room for the list,
+    pub judge-short : length out < 2 * a .table .states → Judges stateLimit t out (Judging.Refused 12) out
+    unfolding Judges judgeNo
+    judge-short h = (rw (right, ← is, lt-leb _ _ h), lit< tt, refl)
+
+    -- or enough; and the working memory is enough for every table.
+    pub judge-asks : (work : List ℕ) → 2 * a .table .states ≤ length out → length work ≡ 3200 → JudgeAsks (a .table) t work out
+    judge-asks work h l =
+        let promised : TableRead stateLimit (a .table) t = rw is (table-read stateLimit t right) in
+        record { right = right; is = is; room = omega (arith, promised .states); fits = h }

@@ -1,0 +1,17 @@
+pub mod Runs
+pub mod Fronts
+pub mod Watched
+pub mod Hits
+pub mod Least
+pub mod Verdict
+pub mod Unique
+pub mod Buys
+pub mod AllLists
+pub mod Trying
+pub mod Memory
+pub mod Held
+pub mod Stepping
+pub mod Searching
+pub mod Listing
+pub mod Finding
+pub mod Answers

@@ -1,0 +1,265 @@
+-- One turn of each loop over the lists of the working memory, on plain values.
+use Prim.Native.Nat.{ℕ, suc, _+_, _-_, _*_, _/_, _%_, _≤_, _<_}
+use native.Mathlib.Numerals.{add-one}
+use native.Mathlib.Omega.{arith}
+use mathlib.Core.Path.{_≡_, refl, sym, ap, ap₂, _∙_}
+use mathlib.Core.Bool.{Bool, true, false, _||_, false≢true, true≢false}
+use mathlib.Core.Logic.{inl, inr, ⊎-map}
+use mathlib.Core.List.{List, [], _∷_, _++_, append-assoc}
+use lib.Dec.{ltb, eqb}
+use lib.ListN.{length, getD, set, take, drop, length-set, length-append, List·getD-append}
+use lib.Seq.{paste, paste-zero, paste-suc, length-paste, take-paste, length-take-le, take-all, drop-at, getD-take, getD-drop, slice, slice-cons, slice-empty, length-slice, take-set-lt, drop-set-lt, getD-set-same}
+use borrow.Author.Tests.{ltb-true, ltb-false, eqb-true, eqb-false}
+use Rattle.convention.specs.Orders.{Earlier, Before}
+use Rattle.convention.proofs.Runs.{either}
+use Rattle.judging.specs.Memory.{wordAt, pairWord, foundEnd, bestEnd, listAt}
+use Rattle.judging.specs.Listed.{pairAt, TraceAsks, Traces, TraceIs, TraceLeft, ListsAsk, CompareIs, Comparing, ListAsks, kept, BetterIs}
+use Rattle.judging.proofs.Memory.{word-set}
+
+-- One more byte written in front of a part.
+slice-set : (work : List ℕ) (at end b : ℕ) → at < end → end ≤ length work → slice at end (set work at b) ≡ b ∷ slice (suc at) end work
+slice-set work at end b h l =
+    slice-cons at end (set work at b) 0 h (rw length-set l)
+    ∙ rw (getD-set-same work at b 0 (omega arith), take-set-lt end work at b h, drop-set-lt (suc at) (take end work) at b (omega arith))
+
+-- ---- writing the list found
+
+module _ (nodes : ℕ) (before : List ℕ) (i k : ℕ) (asks : TraceAsks nodes before i) where
+  -- The memory with the last kind.
+  abbrev first : List ℕ
+  first = set before (7 * nodes - 1) k
+
+  -- The last kind is written.
+  pub trace-begin : TraceLeft nodes first i i (7 * nodes - 1) first
+  trace-begin = record {
+    lower = omega arith;
+    within = omega (arith, asks .inside);
+    written = omega (arith, asks .inside);
+    pairs = λ q h. refl;
+    list = λ path tr. refl;
+    best = refl;
+    long = refl;
+  }
+
+  -- It left the pairs, so what is traced by them.
+  first-pair : (q : ℕ) → q < nodes → pairAt nodes first q ≡ pairAt nodes before q
+  first-pair q h = word-set before (7 * nodes - 1) k (2 * nodes + q) (omega arith)
+
+  first-traces : (path : ℕ → List ℕ) → Traces nodes before i path → Traces nodes first i path
+  first-traces path tr = record { start = tr .start; step = λ j h l. rw (first-pair j (omega (arith, asks .inside))) (tr .step j h l) }
+
+  module _ (j at : ℕ) (work : List ℕ) (left : TraceLeft nodes first i j at work) where
+    -- The memory is as long as before; the next pair and the byte in front are there.
+    pub trace-long : length work ≡ length before
+    trace-long = left .long ∙ length-set before (7 * nodes - 1) k
+
+    pub trace-read : 2 * (2 * nodes + j) + 1 < length work
+    trace-read = omega (arith, trace-long, asks .room .bytes, asks .inside, left .lower)
+
+    pub trace-write : at - 1 < length work
+    trace-write = omega (arith, trace-long, asks .room .bytes, left .written)
+
+    module _ (pair : ℕ) (h : 0 < j) (e : pair ≡ wordAt work (pairWord nodes j)) where
+      pair-here : pair ≡ pairAt nodes first j
+      pair-here = e ∙ left .pairs j (omega (arith, left .lower, asks .inside))
+
+      -- The pair's entry is lower.
+      pub trace-less : pair / 8 < j
+      trace-less = rw (pair-here ∙ first-pair j (omega (arith, left .lower, asks .inside))) (asks .falls j h (left .lower))
+
+      -- One more kind in front.
+      pub trace-turn : TraceLeft nodes first i (pair / 8) (at - 1) (set work (at - 1) (pair % 8))
+      trace-turn =
+          let less = trace-less in
+          let front : suc (at - 1) ≡ at = omega (arith, left .within) in
+          record {
+            lower = omega (arith, left .lower);
+            within = omega (arith, left .within);
+            written = omega (arith, left .written);
+            pairs = λ q b. word-set work (at - 1) (pair % 8) (2 * nodes + q) (omega (arith, left .within)) ∙ left .pairs q b;
+            list = λ path tr.
+                rw (slice-set work (at - 1) (foundEnd nodes) (pair % 8) (omega (arith, left .written)) (omega (arith, trace-long, asks .room .bytes)), front)
+                (longer path tr ∙ left .list path tr);
+            best = drop-set-lt (foundEnd nodes) work (at - 1) (pair % 8) (omega (arith, left .written)) ∙ left .best;
+            long = length-set work (at - 1) (pair % 8) ∙ left .long;
+          }
+        where
+          longer : (path : ℕ → List ℕ) → Traces nodes first i path
+              → path (pair / 8) ++ pair % 8 ∷ slice at (foundEnd nodes) work ≡ path j ++ slice at (foundEnd nodes) work
+          longer path tr = rw (tr .step j h (left .lower), ← pair-here, append-assoc)
+
+    -- The start is reached.
+    pub trace-end : j ≤ 0 → TraceIs nodes before i k (7 * nodes - at) work
+    trace-end h =
+        let back : 7 * nodes - (7 * nodes - at) ≡ at = omega (arith, left .written) in
+        record {
+          some = omega (arith, left .written);
+          short = omega (arith, left .within);
+          list = λ path tr. rw back (nothing path tr ∙ (left .list path (first-traces path tr) ∙ rw last));
+          best = left .best ∙ drop-set-lt (foundEnd nodes) before (7 * nodes - 1) k (omega (arith, asks .inside));
+        }
+      where
+        nothing : (path : ℕ → List ℕ) → Traces nodes before i path → slice at (foundEnd nodes) work ≡ path j ++ slice at (foundEnd nodes) work
+        nothing path tr = let none : j ≡ 0 = omega arith in rw (none, tr .start)
+
+        last : listAt first (foundEnd nodes) 1 ≡ k ∷ []
+        last =
+            let end : suc (7 * nodes - 1) ≡ 7 * nodes = omega (arith, asks .inside) in
+            slice-set before (7 * nodes - 1) (foundEnd nodes) k (omega (arith, asks .inside)) (omega (arith, asks .room .bytes))
+            ∙ rw (end, slice-empty (foundEnd nodes) before)
+
+-- ---- comparing the two lists
+
+module _ (nodes : ℕ) (work : List ℕ) (found best : ℕ) (asks : ListsAsk nodes work found best) where
+  long-found : length (listAt work (foundEnd nodes) found) ≡ found
+  long-found = length-slice (foundEnd nodes - found) (foundEnd nodes) work (omega (arith, asks .room .bytes)) ∙ omega (arith, asks .short)
+
+  long-best : length (listAt work (bestEnd nodes) best) ≡ best
+  long-best = length-slice (bestEnd nodes - best) (bestEnd nodes) work (omega (arith, asks .room .bytes)) ∙ omega (arith, asks .short-best)
+
+  -- Lists of two lengths.
+  pub compare-long : (found ≡ best → ⊥) → CompareIs nodes work found best (ltb found best)
+  unfolding Before
+  compare-long n = record {
+    yes = λ e. inl (rw (long-found, long-best) (ltb-true found best e));
+    no = λ e. inr (inl (rw (long-found, long-best) (omega (arith, n, ltb-false found best e))));
+  }
+
+  -- Lists of one length, before the first kind.
+  pub compare-begin : found ≡ best → Comparing nodes work found best (7 * nodes - found)
+  unfolding Before
+  compare-begin e =
+      let place : 7 * nodes - found + nodes ≡ 8 * nodes - best = omega (arith, asks .short) in
+      let same : length (listAt work (foundEnd nodes) found) ≡ length (listAt work (bestEnd nodes) best) = rw (long-found, long-best) e in
+      record {
+        within = omega arith;
+        yes = rw place (λ l. inr (same, l));
+        no = rw place (⊎-map (λ q. q) (λ l. inr (sym same, l)));
+      }
+
+  module _ (at : ℕ) (left : Comparing nodes work found best at) where
+    -- Behind the last kind.
+    pub compare-end : 7 * nodes ≤ at → CompareIs nodes work found best false
+    compare-end h =
+        let here : at ≡ 7 * nodes = omega (arith, left .within) in
+        let there : 7 * nodes + nodes ≡ 8 * nodes = omega arith in
+        record {
+          yes = λ e. absurd (false≢true e);
+          no = λ _. left .no (inl (rw (here, there, slice-empty (foundEnd nodes) work, slice-empty (bestEnd nodes) work)));
+        }
+
+    module _ (h : at < 7 * nodes) where
+      -- The next kinds.
+      next-found : slice at (foundEnd nodes) work ≡ getD work at 0 ∷ slice (at + 1) (foundEnd nodes) work
+      next-found = rw add-one (slice-cons at (foundEnd nodes) work 0 h (omega (arith, asks .room .bytes)))
+
+      next-best : slice (at + nodes) (bestEnd nodes) work ≡ getD work (at + nodes) 0 ∷ slice (at + 1 + nodes) (bestEnd nodes) work
+      next-best =
+          let next : suc (at + nodes) ≡ at + 1 + nodes = omega arith in
+          rw (← next) (slice-cons (at + nodes) (bestEnd nodes) work 0 (omega arith) (omega (arith, asks .room .bytes)))
+
+      -- They differ.
+      pub compare-hit : (getD work at 0 ≡ getD work (at + nodes) 0 → ⊥)
+          → CompareIs nodes work found best (ltb (getD work at 0) (getD work (at + nodes) 0))
+      unfolding Earlier
+      compare-hit n = record {
+        yes = λ e. left .yes (rw (next-found, next-best) (inl (ltb-true _ _ e)));
+        no = λ e. left .no (inr (rw (next-found, next-best) (inl (omega (arith, n, ltb-false (getD work at 0) (getD work (at + nodes) 0) e)))));
+      }
+
+      -- They are the same.
+      pub compare-turn : getD work at 0 ≡ getD work (at + nodes) 0 → Comparing nodes work found best (at + 1)
+      unfolding Earlier
+      compare-turn e = record {
+        within = omega arith;
+        yes = λ l. left .yes (rw (next-found, next-best) (inr (e, l)));
+        no = λ o. left .no (rw (next-found, next-best) (⊎-map (ap₂ _∷_ (sym e)) (λ l. inr (sym e, l)) o));
+      }
+
+-- ---- keeping the list found
+
+module _ (nodes : ℕ) (before : List ℕ) (found : ℕ) (asks : ListAsks nodes before found) where
+  abbrev list : List ℕ
+  list = listAt before (foundEnd nodes) found
+
+  long-list : length list ≡ found
+  long-list = length-slice (foundEnd nodes - found) (foundEnd nodes) before (omega (arith, asks .room .bytes)) ∙ omega (arith, asks .short)
+
+  -- Once it is kept the best is that list.
+  kept-list : listAt (kept nodes before found) (bestEnd nodes) found ≡ list
+  kept-list =
+      let front : 8 * nodes - found ≤ length before = omega (arith, asks .room .bytes) in
+      let end : 8 * nodes ≡ 8 * nodes - found + found = omega (arith, asks .short) in
+      ap (λ (n : ℕ). drop (8 * nodes - found) (take n (kept nodes before found))) end
+      ∙ rw (take-paste before (8 * nodes - found) list found front (omega (arith, long-list)))
+      (drop-at (take (8 * nodes - found) before) _ _ (length-take-le _ before front) ∙ take-all found list (omega (arith, long-list)))
+
+  -- No kind is copied yet.
+  pub keep-begin : before ≡ paste before (8 * nodes - found) list 0
+  keep-begin = paste-zero before (8 * nodes - found) list
+
+  module _ (i : ℕ) (work : List ℕ) (left : work ≡ paste before (8 * nodes - found) list i) (h : i ≤ found) where
+    -- The memory is as long as before.
+    pub keep-long : length work ≡ length before
+    keep-long = ap length left ∙ length-paste before (8 * nodes - found) list i (omega (arith, asks .room .bytes)) (omega (arith, long-list))
+
+    -- Every kind is copied.
+    pub keep-end : found ≤ i → work ≡ kept nodes before found
+    keep-end l = let all : i ≡ found = omega arith in rw all at left
+
+  -- One more kind: it is there, and so is its place.
+  module _ (i : ℕ) (work : List ℕ) (left : work ≡ paste before (8 * nodes - found) list i) (h : i < found) where
+    pub keep-read : 7 * nodes - found + i < length work
+    keep-read = omega (arith, keep-long i work left (omega arith), asks .room .bytes, asks .short)
+
+    pub keep-write : 8 * nodes - found + i < length work
+    keep-write = omega (arith, keep-long i work left (omega arith), asks .room .bytes, asks .short)
+
+    pub keep-turn : set work (8 * nodes - found + i) (getD work (7 * nodes - found + i) 0) ≡ paste before (8 * nodes - found) list (i + 1)
+    keep-turn =
+        rw (here, left, add-one)
+        (paste-suc before (8 * nodes - found) list i 0 (omega (arith, asks .room .bytes, asks .short)) (omega (arith, long-list)))
+      where
+        here : getD work (7 * nodes - found + i) 0 ≡ getD list i 0
+        here =
+            let front : 7 * nodes - found + i < length (take (8 * nodes - found) before) =
+            rw (length-take-le (8 * nodes - found) before (omega (arith, asks .room .bytes))) (omega (arith, asks .short)) in
+            rw (
+              left,
+              List·getD-append (take (8 * nodes - found) before ++ take i list) _ 0 (7 * nodes - found + i) (rw length-append (omega arith)),
+              List·getD-append (take (8 * nodes - found) before) _ 0 (7 * nodes - found + i) front,
+              getD-take (8 * nodes - found) before (7 * nodes - found + i) 0 (omega (arith, asks .short)),
+              getD-drop,
+              getD-take (foundEnd nodes) before (7 * nodes - found + i) 0 (omega (arith, asks .short)),
+            )
+
+-- ---- the better of the two
+
+module _ (nodes : ℕ) (before : List ℕ) (found best : ℕ) where
+  -- No list was found.
+  pub better-none : found ≡ 0 → BetterIs nodes before found best best before
+  better-none z = record { choice = inl (record { count = refl; memory = refl; why = inl z }) }
+
+  module _ (answer : Bool) (compared : CompareIs nodes before found best answer) (some : found ≡ 0 → ⊥) where
+    -- It is not before the best,
+    pub better-stays : eqb best 0 || answer ≡ false → BetterIs nodes before found best best before
+    better-stays e = elim (either (eqb best 0)) [
+      | inl z ↦ absurd (true≢false (rw z at e))
+      | inr z ↦
+          let was : 0 < best = omega (arith, eqb-false best 0 z) in
+          record { choice = inl (record { count = refl; memory = refl; why = inr (omega (arith, some), was, compared .no (rw z at e)) }) }
+    ]
+
+    -- or it is, or there was none.
+    pub better-changes : ListsAsk nodes before found best → eqb best 0 || answer ≡ true → (after : List ℕ) → after ≡ kept nodes before found
+        → BetterIs nodes before found best found after
+    better-changes asks e after ea =
+        let asks′ : ListAsks nodes before found = record { room = asks .room; short = asks .short } in
+        record {
+          choice = inr (record {
+            some = omega (arith, some);
+            count = refl;
+            list = rw ea (kept-list nodes before found asks′);
+            why = elim (either (eqb best 0)) [ inl z ↦ inl (eqb-true best 0 z) | inr z ↦ inr (omega (arith, eqb-false best 0 z), inr (compared .yes (rw z at e))) ];
+          });
+        }

@@ -1,0 +1,42 @@
+-- `step`: the transition's fault and where it leads, by what each call answers.
+use Rattle.judging.proofs.Stepping.{step-asks, step-is}
+use borrow.Author.Needs.{needs}
+use Rattle.judging.proofs.steps.step.Statement.{statement}
+use Rattle.judging.proofs.steps.step.Tie as tie
+
+cast-transition-of : tie.Need-cast-transition-of
+cast-transition-of c = search needs
+
+transition-of-requires : tie.Need-transition-of-requires
+transition-of-requires c κs = search needs
+
+mul-kind : tie.Need-mul-kind
+mul-kind c = search needs
+
+element-copy-out-kind : tie.Need-element-copy-out-kind
+element-copy-out-kind c = search needs
+
+watched-fault-requires : tie.Need-watched-fault-requires
+watched-fault-requires c κs = search (step-asks, needs)
+
+watched-given-requires : tie.Need-watched-given-requires
+watched-given-requires c κs = search needs
+
+node-of-requires : tie.Need-node-of-requires
+node-of-requires c κs = search needs
+
+returns : tie.Need-returns
+returns c = search (step-is, needs)
+
+pub step-spec : {M : Type 1} → statement M
+step-spec =
+    tie.close
+    (tie.spec
+    cast-transition-of
+    transition-of-requires
+    mul-kind
+    element-copy-out-kind
+    watched-fault-requires
+    watched-given-requires
+    node-of-requires
+    returns)

@@ -1,0 +1,84 @@
+// The verdict on a table, above the table reader: document 01, demand 3. One register is watched at a time, and the least of
+// the lists that are found is the answer: see specs/Watched.antt for what is searched, and proofs/ for why it is the verdict.
+mod lists;
+mod search;
+mod steps;
+mod words;
+
+use convention::Judging;
+use convention::Reading;
+use convention::Table;
+ghost use Prim.Native.Nat.{_+_};
+ghost use Rattle.convention.specs.Numbers.{stateLimit};
+ghost use Rattle.convention.specs.Judged.{Judges};
+ghost use Rattle.judging.specs.Found.{FindAsks, FindIs, BestIs, JudgeAsks};
+
+// Finds the first faulty list of the walk that watches r. Answers how many kinds it has, 0 where there is none.
+fn find(table: Table, t: &[u8], r: u8, work: &mut [u8]) -> usize
+    requires { ⌜ FindAsks table (now t) (now work) ⌝ }
+    ensures { λ n. ⌜ FindIs table (now (t .entry)) r (now (work .entry)) n (now (work .exit)) ⌝ }
+{
+    let kinds = table.head.kinds;
+    let nodes = 2 * table.states as usize;
+    words::start(work, nodes);
+    let found = search::search(table, t, r, work);
+    if found.kind < kinds {
+        return lists::write_found(work, nodes, found.entry, found.kind);
+    }
+    0
+}
+
+// The least of the lists that are found for a register each, and for none. Answers how many kinds it has, 0 where there is
+// none.
+fn least_list(table: Table, t: &[u8], work: &mut [u8]) -> usize
+    requires { ⌜ FindAsks table (now t) (now work) ⌝ }
+    ensures { λ n. ⌜ BestIs table (now (t .entry)) (now (work .entry)) (table .head .registers + 1) n (now (work .exit)) ⌝ }
+{
+    let registers = table.head.registers;
+    let nodes = 2 * table.states as usize;
+    let mut best = 0;
+    let mut r: u8 = 0;
+    while r <= registers {
+        let found = find(table, t, r, work);
+        best = lists::better(work, nodes, found, best);
+        r += 1;
+    }
+    best
+}
+
+// The verdict on a table that was read from t, with room for its list: the list is written only where it is faulty.
+fn judge_read(table: Table, t: &[u8], work: &mut [u8], out: &mut [u8]) -> Judging
+    requires { ⌜ JudgeAsks table (now t) (now work) (now out) ⌝ }
+    ensures { λ r. ⌜ Judges stateLimit (now (t .entry)) (now (out .entry)) r (now (out .exit)) ⌝ }
+{
+    let n = least_list(table, t, work);
+    if n == 0 {
+        return Judging::Clean;
+    }
+    let nodes = 2 * table.states as usize;
+    let end = 8 * nodes;
+    let at = end - n;
+    bytes::copy(&work[at..end], out);
+    let walk = walking::walk(table, t, &out[..n]);
+    Judging::Fault(walk.fault, n)
+}
+
+// Judges a table: clean, or the first faulty list in the first bytes of `out`, shorter lists first and those of one length in
+// kind order, with its fault; or a refusal, which writes nothing.
+pub fn judge(t: &[u8], out: &mut [u8]) -> Judging
+    ensures { λ r. ⌜ Judges stateLimit (now (t .entry)) (now (out .entry)) r (now (out .exit)) ⌝ }
+{
+    let read = table::read_table(t);
+    let reading = read.reading;
+    match reading {
+        Reading::Refused(number) => Judging::Refused(number),
+        Reading::Read => {
+            let table = read.table;
+            if out.len() < 2 * table.states as usize {
+                return Judging::Refused(12);
+            }
+            let mut work = [0u8; 3200];
+            judge_read(table, t, &mut work, out)
+        }
+    }
+}

@@ -1,0 +1,71 @@
+// The two lists of the working memory, the one found last and the best, each in the last bytes of its part.
+ghost use mathlib.Core.Path.{_≡_};
+ghost use Rattle.judging.specs.Listed.{TraceAsks, TraceIs, ListsAsk, CompareIs, ListAsks, kept, BetterIs};
+use crate::words;
+
+// Writes the kinds that led to an entry, and then a kind, as the list found: from its end, by the pairs, to the start. Answers
+// how many kinds it has.
+pub(crate) fn write_found(work: &mut [u8], nodes: usize, entry: usize, kind: u8) -> usize
+    requires { ⌜ TraceAsks nodes (now work) entry ⌝ }
+    ensures { λ n. ⌜ TraceIs nodes (now (work .entry)) entry kind n (now (work .exit)) ⌝ }
+{
+    let end = 7 * nodes;
+    let mut at = end - 1;
+    work[at] = kind;
+    let mut i = entry;
+    while 0 < i {
+        let pair = words::read_word(work, 2 * nodes + i);
+        at -= 1;
+        work[at] = (pair % 8) as u8;
+        i = pair / 8;
+    }
+    end - at
+}
+
+// Whether the list found is before the best: shorter, or as long and earlier in kind order.
+fn is_before(work: &[u8], nodes: usize, found: usize, best: usize) -> bool
+    requires { ⌜ ListsAsk nodes (now work) found best ⌝ }
+    ensures { λ r. ⌜ CompareIs nodes (now (work .entry)) found best r ⌝ }
+{
+    if found != best {
+        return found < best;
+    }
+    let end = 7 * nodes;
+    let mut at = end - found;
+    while at < end {
+        if work[at] != work[at + nodes] {
+            return work[at] < work[at + nodes];
+        }
+        at += 1;
+    }
+    false
+}
+
+// Makes the list found the best.
+fn keep(work: &mut [u8], nodes: usize, found: usize)
+    requires { ⌜ ListAsks nodes (now work) found ⌝ }
+    ensures { λ _. ⌜ now (work .exit) ≡ kept nodes (now (work .entry)) found ⌝ }
+{
+    let from = 7 * nodes - found;
+    let to = 8 * nodes - found;
+    let mut i = 0;
+    while i < found {
+        work[to + i] = work[from + i];
+        i += 1;
+    }
+}
+
+// Makes the better of the list found and the best the best. A list of no kinds is none. Answers how many kinds it has.
+pub(crate) fn better(work: &mut [u8], nodes: usize, found: usize, best: usize) -> usize
+    requires { ⌜ ListsAsk nodes (now work) found best ⌝ }
+    ensures { λ n. ⌜ BetterIs nodes (now (work .entry)) found best n (now (work .exit)) ⌝ }
+{
+    if found == 0 {
+        return best;
+    }
+    if (best == 0) | is_before(work, nodes, found, best) {
+        keep(work, nodes, found);
+        return found;
+    }
+    best
+}
