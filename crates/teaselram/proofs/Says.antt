@@ -8,8 +8,11 @@ use native.Mathlib.Nat.{mul-le-mul}
 use lib.Dec.{ltb, leb}
 use lib.ListN.{length}
 use borrow.Author.Tests.{leb-true, ltb-true}
+use Rattle.convention.specs.declared.Building.{Building}
+use Rattle.convention.specs.declared.Judging.{Judging}
+use Rattle.convention.specs.declared.Judging.the-variants.{Clean, Fault}
 use Rattle.convention.specs.declared.Placing.{Placing}
-use Rattle.convention.specs.Numbers.{stateLimit, argumentLimit, orElse, Said, unless, refusal, placingSays}
+use Rattle.convention.specs.Numbers.{stateLimit, argumentLimit, orElse, Said, unless, refusal, placingSays, buildingSays, judgingSays}
 use Rattle.convention.specs.Tables.{tableNo, tableOf, statesOf, readTable, rowNo, rowAt}
 use Rattle.convention.specs.Fields.{headOf}
 use Rattle.convention.specs.declared.TableAnswer.{TableAnswer}
@@ -18,11 +21,16 @@ use Rattle.convention.specs.Lists.{Steps, recordLength, unknownAt, faultFrom, s
 use Rattle.convention.specs.Sheets.{sheetNo, sheetOf}
 use Rattle.convention.specs.Rules.{byRules, placeByRules}
 use Rattle.convention.specs.Walked.{byTable, placeByTable}
+use Rattle.convention.specs.Built.{builtStates, builtTable, buildNo, buildAnswer, build}
+use Rattle.convention.specs.Judged.{Judges}
 use Rattle.convention.proofs.Lists.{stop-le}
 use Rattle.convention.proofs.Numbers.{or-zero, unless-zero}
 use Rattle.convention.proofs.Tables.{table-read, table-given}
+use Rattle.convention.proofs.Sheets.{sheet-read}
+use Rattle.building.proofs.Readable.{built-length}
+use Rattle.judging.proofs.Unique.{judge-zero, unique}
 use Rattle.teaselram.specs.declared.Answer.{Answer}
-use Rattle.teaselram.specs.Says.{answerOf, rowGiven, rowSays, CountFits}
+use Rattle.teaselram.specs.Says.{answerOf, rowGiven, rowSays, CountFits, LengthFits, ListFits, JudgeSays}
 
 -- An answer that is known to be one of its cases says what that case says.
 pub known-says : (placing known : Placing) (a : Answer) → placing ≡ known → a ≡ answerOf (placingSays known) → a ≡ answerOf (placingSays placing)
@@ -107,3 +115,48 @@ module _ (t : List ℕ) (state number : ℕ) (en : number ≡ rowNo stateLimit t
           → _≡_ {A = Answer} (record { number = 0; fault = 0; count = 4 * h .kinds; value = start }) (answerOf (rowSays stateLimit t state))
       unfolding rowSays
       row-given start es = rw (right, es, eh)
+
+-- An answer of building that is known says what its case says; the table's length fits.
+pub known-building : (building known : Building) (a : Answer) → building ≡ known → a ≡ answerOf (buildingSays known) → a ≡ answerOf (buildingSays building)
+known-building building known a e is = rw e is
+
+pub length-known : (building known : Building) → LengthFits building → building ≡ known → buildingSays known .value < 2 ^ 32
+length-known building known fits e = rw e at (fits .fits)
+
+-- A verdict that is known says what its case says; its list fits.
+pub known-verdict : (verdict known : Judging) (a : Answer) → verdict ≡ known → a ≡ answerOf (judgingSays known) → a ≡ answerOf (judgingSays verdict)
+known-verdict verdict known a e is = rw e is
+
+pub list-known : (verdict known : Judging) → ListFits verdict → verdict ≡ known → judgingSays known .count < 65536
+list-known verdict known fits e = rw e at (fits .fits)
+
+-- A table of at most 200 states and 8 kinds has at most 6,424 bytes.
+pub length-fits : (s : List ℕ) (room : ℕ) (building : Building) → building ≡ build stateLimit s room → LengthFits building
+unfolding build buildNo
+length-fits s room building e = rw e (record { fits = omega (arith, most (buildNo stateLimit s room) refl) })
+  where
+    most : (n : ℕ) → buildNo stateLimit s room ≡ n
+        → buildingSays (buildAnswer n (length (builtStates stateLimit (sheetOf s))) (length (builtTable stateLimit (sheetOf s)))) .value ≤ 6424
+    most zero z =
+        let both = or-zero (sheetNo s) _ z in
+        let promised = sheet-read s (both .0) in
+        let few = leb-true (length (builtStates stateLimit (sheetOf s))) stateLimit (unless-zero _ 11 (omega arith) (or-zero (unless (leb (length (builtStates stateLimit (sheetOf s))) stateLimit) 11) _ (both .1) .0)) in
+        let row : 4 * sheetOf s .head .kinds ≤ 32 = omega (arith, promised .head .kinds) in
+        omega (arith, built-length (sheetOf s) (builtStates stateLimit (sheetOf s)), mul-le-mul row few, promised .head .kinds)
+    most (suc n) z = omega arith
+
+-- A verdict's list has at most 2N kinds, which are at most 400.
+pub list-fits : (t before : List ℕ) (verdict : Judging) (after : List ℕ) → Judges stateLimit t before verdict after → ListFits verdict
+unfolding Judges
+list-fits t before Clean after means = record { fits = omega arith }
+list-fits t before (Fault fault n) after means =
+    let promised = table-read stateLimit t (judge-zero stateLimit t (length before) (means .0) .0) in
+    record { fits = omega (arith, means .1, promised .states) }
+list-fits t before (Judging.Refused number) after means = record { fits = omega arith }
+
+-- Two answers of the judge's call are equal, and so is the memory.
+pub judge-unique : (limit : ℕ) (t before : List ℕ) (a b : Answer) (after after′ : List ℕ)
+    → JudgeSays limit t before a after → JudgeSays limit t before b after′ → (a ≡ b) × (after ≡ after′)
+judge-unique limit t before a b after after′ x y =
+    let same = unique limit t before (x .verdict) (y .verdict) after after′ (x .means) (y .means) in
+    (x .says ∙ (rw (same .0) (sym (y .says))), same .1)

@@ -1,11 +1,15 @@
 -- What the structs of the boundary say: for each answer of crates/convention, 01's number and values, field by field.
-use Prim.Native.Nat.{ℕ, zero, suc, _<_}
+use Prim.Native.Nat.{ℕ, zero, suc, _<_, _^_}
+use mathlib.Core.Path.{_≡_}
 use mathlib.Core.List.{List}
 use Rattle.convention.specs.declared.Placing.{Placing}
 use Rattle.convention.specs.declared.Placing.the-variants.{Placed, Unknown, Faulty}
+use Rattle.convention.specs.declared.Building.{Building}
+use Rattle.convention.specs.declared.Judging.{Judging}
 use Rattle.convention.specs.declared.SheetAnswer.{SheetAnswer}
 use Rattle.convention.specs.declared.TableAnswer.{TableAnswer}
-use Rattle.convention.specs.Numbers.{Said, refusal, readingNo, placingSays}
+use Rattle.convention.specs.Numbers.{Said, refusal, readingNo, placingSays, buildingSays, judgingSays}
+use Rattle.convention.specs.Judged.{Judges}
 use Rattle.convention.specs.Fields.{headOf}
 use Rattle.convention.specs.Tables.{rowNo, rowAt, rowLength}
 use Rattle.teaselram.specs.declared.Answer.{Answer}
@@ -50,3 +54,16 @@ rowSays limit t state =
 -- The count of an answer of placing fits its two bytes.
 pub record CountFits (placing : Placing) : Type 0 where
   pub fits : placingSays placing .count < 65536
+
+-- The length of a table that was built fits its four bytes, and the length of a verdict's list its two.
+pub record LengthFits (building : Building) : Type 0 where
+  pub fits : buildingSays building .value < 2 ^ 32
+
+pub record ListFits (verdict : Judging) : Type 0 where
+  pub fits : judgingSays verdict .count < 65536
+
+-- The judge's answer says what a verdict says that `Judges` allows.
+pub record JudgeSays (limit : ℕ) (t before : List ℕ) (a : Answer) (after : List ℕ) : Type 0 where
+  pub verdict : Judging
+  pub means : Judges limit t before verdict after
+  pub says : a ≡ answerOf (judgingSays verdict)

@@ -1,16 +1,19 @@
 // The static library: the calls of document 01 for C and Rust. A slice is a pointer and a length; nothing is written but `out`.
 // Each answer is one of two structs of eight bytes, by value: 01's number, 0 on success, and the values that 01 names for the
 // answer; every other field is 0.
+use convention::Building;
+use convention::Judging;
 use convention::Placing;
 use convention::Reading;
 ghost use mathlib.Core.Path.{_≡_};
 ghost use lib.ListN.{length};
-ghost use Rattle.convention.specs.Numbers.{stateLimit, argumentLimit, readingNo, placingSays};
+ghost use Rattle.convention.specs.Numbers.{stateLimit, argumentLimit, readingNo, placingSays, buildingSays, judgingSays};
+ghost use Rattle.convention.specs.Built.{build, buildMemory};
 ghost use Rattle.convention.specs.Sheets.{readSheet};
 ghost use Rattle.convention.specs.Tables.{readTable};
 ghost use Rattle.convention.specs.Rules.{placeByRules, rulesMemory};
 ghost use Rattle.convention.specs.Walked.{placeByTable, tableMemory};
-ghost use Rattle.teaselram.specs.Says.{answerOf, sheetSays, tableSays, rowSays, CountFits};
+ghost use Rattle.teaselram.specs.Says.{answerOf, sheetSays, tableSays, rowSays, CountFits, LengthFits, ListFits, JudgeSays};
 
 #[repr(C)]
 pub struct Answer {
@@ -79,6 +82,39 @@ fn placing_says(placing: Placing) -> Answer
     }
 }
 
+// What an answer of building says: N and the table's length, which fits.
+fn building_says(building: Building) -> Answer
+    requires { ⌜ LengthFits building ⌝ }
+    ensures { λ r. ⌜ r ≡ answerOf (buildingSays building) ⌝ }
+{
+    match building {
+        Building::Built(n, length) => Answer {
+            number: 0,
+            fault: 0,
+            count: n,
+            value: length as u32,
+        },
+        Building::Refused(number) => refusal(number),
+    }
+}
+
+// What a verdict says: fault number and list length, both 0 where clean. A list has at most 400 kinds, so its length fits.
+fn judging_says(verdict: Judging) -> Answer
+    requires { ⌜ ListFits verdict ⌝ }
+    ensures { λ r. ⌜ r ≡ answerOf (judgingSays verdict) ⌝ }
+{
+    match verdict {
+        Judging::Clean => refusal(0),
+        Judging::Fault(fault, n) => Answer {
+            number: 0,
+            fault,
+            count: n as u16,
+            value: 0,
+        },
+        Judging::Refused(number) => refusal(number),
+    }
+}
+
 // Reads a sheet: its head. `states` is 0.
 #[no_mangle]
 pub extern "C" fn teaselram_read_sheet(sheet: &[u8]) -> HeadAnswer
@@ -137,6 +173,25 @@ pub extern "C" fn teaselram_place_by_table(table: &[u8], kinds: &[u8], out: &mut
 {
     let placing = walking::place_by_table(table, kinds, out);
     placing_says(placing)
+}
+
+// Builds the table of a sheet.
+#[no_mangle]
+pub extern "C" fn teaselram_build(sheet: &[u8], out: &mut [u8]) -> Answer
+    ensures { λ r. ⌜ r ≡ answerOf (buildingSays (build stateLimit (now (sheet .entry)) (length (now (out .entry))))) ⌝ }
+    ensures { λ _. ⌜ now (out .exit) ≡ buildMemory stateLimit (now (sheet .entry)) (now (out .entry)) ⌝ }
+{
+    let building = building::build(sheet, out);
+    building_says(building)
+}
+
+// Judges a table.
+#[no_mangle]
+pub extern "C" fn teaselram_judge(table: &[u8], out: &mut [u8]) -> Answer
+    ensures { λ r. ⌜ JudgeSays stateLimit (now (table .entry)) (now (out .entry)) r (now (out .exit)) ⌝ }
+{
+    let verdict = judging::judge(table, out);
+    judging_says(verdict)
 }
 
 // Asks for the row of a state, any number: how long it is, and where it starts in the table.

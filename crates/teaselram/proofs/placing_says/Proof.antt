@@ -1,5 +1,5 @@
-use native.Mathlib.Omega.{arith}
 -- `placing_says`: each case says its number and values, and the count fits.
+use native.Mathlib.Omega.{arith}
 use Rattle.teaselram.proofs.Says.{known-says, known-fits}
 use borrow.Author.Needs.{needs}
 use Rattle.teaselram.proofs.placing_says.Statement.{statement}

@@ -1,0 +1,15 @@
+pub mod Allocations
+pub mod Places
+pub mod Passing
+pub mod Readable
+pub mod InStep
+pub mod Agreement
+pub mod Calls
+pub mod Clean
+pub mod Reached
+pub mod Unreached
+pub mod Comparing
+pub mod Leading
+pub mod Meeting
+pub mod Writing
+pub mod Answering

@@ -1,0 +1,125 @@
+-- What the laws of built tables need to know of a place that the rules give: it is a free run, of as many registers as the kind needs and within the sheet's; or
+-- the least offset, with the kind's size; or nothing. And of the flags behind a step: what was unavailable stays so.
+use Prim.Native.Nat.{ℕ, zero, suc, _+_, _≤_, _<_}
+use mathlib.Core.Path.{_≡_, refl, sym, _∙_}
+use mathlib.Core.Logic.{inl, inr}
+use mathlib.Core.Bool.{Bool, true, false, true≢false}
+use mathlib.Core.List.{List, [], _∷_}
+use native.Mathlib.Decide.{decLe, decLt}
+use native.Mathlib.Omega.{arith}
+use lib.ListN.{length, getD, set, replicate, length-take}
+use lib.Seq.{getD-take, length-sets}
+use borrow.Author.Tests.{ltb-true}
+use Rattle.convention.specs.declared.Head.{Head}
+use Rattle.convention.specs.declared.SheetKind.{SheetKind}
+use Rattle.convention.specs.declared.ByRules.{ByRules}
+use Rattle.convention.specs.declared.Placement.{Placement}
+use Rattle.convention.specs.declared.Placement.the-variants.{Registers, Stack, Nowhere}
+use Rattle.convention.specs.Sheets.{mayUseStack, isClosing}
+use Rattle.convention.specs.Rules.{freeRun, markRun, markRuns, leftBefore, startsOf, needed, leftOf, fits, startTaken, stackBytes, stackOffset}
+use Rattle.convention.specs.Rules.{rulesPlace, placeTaken, rulesAfter}
+use Rattle.convention.specs.Promised.{SheetKindRead}
+use Rattle.convention.proofs.Runs.{either, free-each, free-some, mark-in, mark-out}
+
+-- The start that is taken has a free run.
+left-free : (taken : List Bool) (count : ℕ) (starts : List ℕ) → leftBefore taken count starts < length starts
+    → freeRun taken (getD starts (leftBefore taken count starts) 0) count ≡ true
+unfolding leftBefore
+left-free taken count [] h = absurd (omega arith)
+left-free taken count (s ∷ starts) h = elim (either (freeRun taken s count)) [
+  | inl t ↦ rw (t, leftBefore) t
+  | inr t ↦ rw (t, leftBefore) (left-free taken count starts (omega (arith, rw (t, leftBefore) at h)))
+]
+
+-- The run of the start that is taken lies within the sheet's registers.
+taken-fits : (h : Head) (kind : SheetKind) (taken : List Bool) → SheetKindRead h kind → leftOf (h .width) kind taken < length (startsOf kind)
+    → startTaken (h .width) kind taken + needed (h .width) kind ≤ h .registers
+taken-fits h kind taken r l =
+    let o : leftOf (h .width) kind taken < kind .tries = omega (arith, rw length-take at l) in
+    rw getD-take (r .starts _ o)
+
+-- What holds of a place that the rules give a kind in state s.
+abbrev pub Gives : Head → SheetKind → ByRules → Placement → Type 0
+Gives h kind s (Registers first count) =
+    (freeRun (s .unavailable) (first .0) count ≡ true) × (first .0 + count ≤ h .registers) × (count ≡ needed (h .width) kind)
+Gives h kind s (Stack offset count) = (offset .0 ≡ stackOffset kind (s .p .0)) × (count ≡ stackBytes (kind .size))
+Gives h kind s Nowhere = Unit {0}
+
+-- The rules give such a place.
+pub rules-give : (h : Head) (kind : SheetKind) (s : ByRules) → SheetKindRead h kind → Gives h kind s (rulesPlace (h .width) kind s)
+unfolding rulesPlace
+rules-give h kind s r = elim (either (fits (h .width) kind (s .unavailable))) [
+  | inl t ↦ let l = ltb-true _ _ t in rw t (left-free _ _ _ l, taken-fits h kind (s .unavailable) r l, refl)
+  | inr t ↦ elim (either (mayUseStack kind)) [ inl u ↦ rw (t, u) (refl, refl) | inr u ↦ rw (t, u) tt ]
+]
+
+-- The registers of the first set are all in the second.
+abbrev pub Within : List Bool → List Bool → Type 0
+Within taken taken′ = (r : ℕ) → getD taken r false ≡ true → getD taken′ r false ≡ true
+
+-- A run that is free of the second set is free of the first.
+pub free-within : (taken taken′ : List Bool) (first count : ℕ) → Within taken taken′ → freeRun taken′ first count ≡ true
+    → freeRun taken first count ≡ true
+free-within taken taken′ first count h e = elim (either (freeRun taken first count)) [
+  | inl t ↦ t
+  | inr t ↦
+      let r = free-some taken first count t in
+      absurd (true≢false (sym (h (r .0) (r .3)) ∙ free-each taken′ first count e (r .0) (r .1) (r .2)))
+]
+
+-- Marking takes nothing out of a set, and keeps the number of registers.
+set-within : (taken : List Bool) (i : ℕ) → Within taken (set taken i true)
+set-within [] i r e = e
+set-within (x ∷ taken) zero zero e = refl
+set-within (x ∷ taken) zero (suc r) e = e
+set-within (x ∷ taken) (suc i) zero e = e
+set-within (x ∷ taken) (suc i) (suc r) e = set-within taken i r e
+
+mark-within : (taken : List Bool) (first count : ℕ) → Within taken (markRun taken first count)
+mark-within taken first zero r e = e
+mark-within taken first (suc count) r e = mark-within (set taken first true) (suc first) count r (set-within taken first r e)
+
+marks-within : (taken : List Bool) (count : ℕ) (starts : List ℕ) → Within taken (markRuns taken count starts)
+unfolding markRuns
+marks-within taken count [] r e = e
+marks-within taken count (s ∷ starts) r e = marks-within (markRun taken s count) count starts r (mark-within taken s count r e)
+
+marks-length : (taken : List Bool) (count : ℕ) (starts : List ℕ) → length (markRuns taken count starts) ≡ length taken
+unfolding markRuns
+marks-length taken count [] = refl
+marks-length taken count (s ∷ starts) = marks-length (markRun taken s count) count starts ∙ length-sets taken s (replicate count true)
+
+taken-length : (place : Placement) (taken : List Bool) → length (placeTaken place taken) ≡ length taken
+taken-length (Registers first count) taken = length-sets taken (first .0) (replicate count true)
+taken-length (Stack offset count) taken = refl
+taken-length Nowhere taken = refl
+
+-- A place adds the same registers to both sets.
+pub taken-within : (h : Head) (kind : SheetKind) (s : ByRules) (place : Placement) (taken : List Bool) → Gives h kind s place
+    → h .registers ≤ length (s .unavailable) → Within taken (s .unavailable) → Within (placeTaken place taken) (placeTaken place (s .unavailable))
+taken-within h kind s (Registers first count) taken g n within r e = elim (decLe (first .0) r) [
+  | yes l ↦ elim (decLt r (first .0 + count)) [
+    | yes o ↦ mark-in (s .unavailable) (first .0) count r (omega arith) l o
+    | no o ↦ outside (λ _ k. o k)
+  ]
+  | no l ↦ outside (λ k _. l k)
+]
+  where
+    outside : (first .0 ≤ r → r < first .0 + count → ⊥) → getD (markRun (s .unavailable) (first .0) count) r false ≡ true
+    outside o = mark-within (s .unavailable) (first .0) count r (within r (sym (mark-out taken (first .0) count r o) ∙ e))
+taken-within h kind s (Stack offset count) taken g n within r e = within r e
+taken-within h kind s Nowhere taken g n within r e = within r e
+
+-- Behind a step.
+module _ (w : ℕ) (kind : SheetKind) (s : ByRules) where
+  -- The registers of its place are unavailable, and those that were.
+  pub after-within : Within (placeTaken (rulesPlace w kind s) (s .unavailable)) (rulesAfter w kind s .unavailable)
+  unfolding rulesAfter
+  after-within = elim (either (isClosing kind)) [ inl t ↦ rw t (marks-within _ _ _) | inr t ↦ rw t (λ r e. e) ]
+
+  -- There are as many registers as before.
+  pub after-length : length (rulesAfter w kind s .unavailable) ≡ length (s .unavailable)
+  unfolding rulesAfter
+  after-length =
+      let taken = taken-length (rulesPlace w kind s) (s .unavailable) in
+      elim (either (isClosing kind)) [ inl t ↦ rw t (marks-length _ _ _ ∙ taken) | inr t ↦ rw t taken ]

@@ -1,0 +1,53 @@
+-- `explore`: before state i the states kept are those met once the states below i were gone through; 200 turns are enough.
+use Prim.Native.Nat.{_-_}
+use Rattle.convention.specs.Numbers.{stateLimit}
+use Rattle.building.specs.Holding.{Exploring}
+use Rattle.building.proofs.Meeting.{exploring-begin, exploring-over, exploring-end}
+use borrow.Author.Needs.{needs}
+use Rattle.building.proofs.explore.Statement.{statement}
+use Rattle.building.proofs.explore.Tie as tie
+
+abbrev Inv-loop : tie.InvT-loop
+Inv-loop sheet met₀ i₀ met i = Exploring sheet i met
+
+abbrev μ-loop : tie.MeasureT-loop
+μ-loop sheet met₀ i₀ met i = stateLimit - i
+
+begin-requires : tie.Need-begin-requires Inv-loop μ-loop
+begin-requires c κs = search needs
+
+loop-holds : tie.Need-loop-holds Inv-loop μ-loop
+loop-holds c = search (exploring-begin, needs)
+
+returns : tie.Need-returns Inv-loop μ-loop
+returns c = search (exploring-over, needs)
+
+visit-requires : tie.Need-visit-requires Inv-loop μ-loop
+visit-requires c κs = search needs
+
+add-i : tie.Need-add-i Inv-loop μ-loop
+add-i c = search needs
+
+loop-less : tie.Need-loop-less Inv-loop μ-loop
+loop-less c = search needs
+
+loop-again : tie.Need-loop-again Inv-loop μ-loop
+loop-again c = search needs
+
+returns-2 : tie.Need-returns-2 Inv-loop μ-loop
+returns-2 c = search (exploring-end, needs)
+
+pub explore-spec : {M : Type 1} → statement M
+explore-spec =
+    tie.close
+    (tie.spec
+    Inv-loop
+    μ-loop
+    begin-requires
+    loop-holds
+    returns
+    visit-requires
+    add-i
+    loop-less
+    loop-again
+    returns-2)

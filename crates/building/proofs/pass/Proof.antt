@@ -1,0 +1,23 @@
+-- `pass`: there is a place exactly where the kind leads on, and then the state behind it is met.
+use Rattle.building.proofs.Meeting.{passes-on, passes-nowhere}
+use borrow.Author.Needs.{needs}
+use Rattle.building.proofs.pass.Statement.{statement}
+use Rattle.building.proofs.pass.Tie as tie
+
+lead-requires : tie.Need-lead-requires
+lead-requires c κs = search needs
+
+is-place-requires : tie.Need-is-place-requires
+is-place-requires c κs = search needs
+
+meet-requires : tie.Need-meet-requires
+meet-requires c κs = search needs
+
+returns : tie.Need-returns
+returns c = search (passes-on, needs)
+
+returns-2 : tie.Need-returns-2
+returns-2 c = search (passes-nowhere, needs)
+
+pub pass-spec : {M : Type 1} → statement M
+pass-spec = tie.close (tie.spec lead-requires is-place-requires meet-requires returns returns-2)

@@ -1,0 +1,74 @@
+-- `write_row`: before kind k the transitions of the kinds below k are written.
+use Prim.Native.Nat.{_-_}
+use Rattle.convention.specs.Numbers.{stateLimit}
+use Rattle.convention.specs.Built.{builtTransition, builtStates}
+use Rattle.building.specs.Writing.{BlocksLeft}
+use Rattle.building.proofs.Writing.{blocks-begin, cell-asks, cell-on, row-end}
+use borrow.Author.Needs.{needs}
+use Rattle.building.proofs.write_row.Statement.{statement}
+use Rattle.building.proofs.write_row.Tie as tie
+
+abbrev Inv-loop : tie.InvT-loop
+Inv-loop sheet i out₀ met from kinds at k₀ out k = BlocksLeft (builtTransition sheet (builtStates stateLimit sheet) from) at k kinds out₀ out
+
+abbrev μ-loop : tie.MeasureT-loop
+μ-loop sheet i out₀ met from kinds at k₀ out k = kinds - k
+
+mul-from : tie.Need-mul-from Inv-loop μ-loop
+mul-from c = search needs
+
+element-copy-out-from : tie.Need-element-copy-out-from Inv-loop μ-loop
+element-copy-out-from c = search needs
+
+row-at-requires : tie.Need-row-at-requires Inv-loop μ-loop
+row-at-requires c κs = search needs
+
+loop-holds : tie.Need-loop-holds Inv-loop μ-loop
+loop-holds c = search (blocks-begin, needs)
+
+cast-write-cell : tie.Need-cast-write-cell Inv-loop μ-loop
+cast-write-cell c = search needs
+
+mul-write-cell : tie.Need-mul-write-cell Inv-loop μ-loop
+mul-write-cell c = search needs
+
+add-write-cell : tie.Need-add-write-cell Inv-loop μ-loop
+add-write-cell c = search needs
+
+write-cell-requires : tie.Need-write-cell-requires Inv-loop μ-loop
+write-cell-requires c κs = search (cell-asks, needs)
+
+add-k : tie.Need-add-k Inv-loop μ-loop
+add-k c = search needs
+
+loop-less : tie.Need-loop-less Inv-loop μ-loop
+loop-less c = search needs
+
+loop-again : tie.Need-loop-again Inv-loop μ-loop
+loop-again c = search (cell-on, needs)
+
+same-length : tie.Need-same-length Inv-loop μ-loop
+same-length c = search needs
+
+returns : tie.Need-returns Inv-loop μ-loop
+returns c = search (row-end, needs)
+
+pub write-row-spec : {M : Type 1} → statement M
+write-row-spec =
+    tie.close
+    (tie.spec
+    Inv-loop
+    μ-loop
+    mul-from
+    element-copy-out-from
+    row-at-requires
+    loop-holds
+    cast-write-cell
+    mul-write-cell
+    add-write-cell
+    write-cell-requires
+    add-k
+    loop-less
+    loop-again
+    same-length
+    returns)

@@ -1,0 +1,4 @@
+pub mod Made
+pub mod Reached
+pub mod Holding
+pub mod Writing

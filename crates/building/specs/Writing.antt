@@ -1,0 +1,72 @@
+-- What the functions that write the table ask of one another.
+use Prim.Native.Nat.{ℕ, _+_, _-_, _≤_, _<_}
+use mathlib.Core.Path.{_≡_}
+use mathlib.Core.List.{List, [], _∷_, _++_}
+use lib.Dec.{leb}
+use lib.ListN.{length}
+use Rattle.convention.specs.declared.Head.{Head}
+use Rattle.convention.specs.declared.Sheet.{Sheet}
+use Rattle.convention.specs.declared.Building.{Building}
+use Rattle.convention.specs.Numbers.{stateLimit, orElse, unless}
+use Rattle.convention.specs.Bytes.{twoBytes, written, blocks}
+use Rattle.convention.specs.Tables.{statesAt, transitionLength, rowsAt, rowAt}
+use Rattle.convention.specs.Promised.{SheetRead}
+use Rattle.convention.specs.Built.{builtKind, builtStates, builtTable, statesNumber, buildAnswer, buildWrites}
+use Rattle.building.specs.declared.Met.{Met}
+use Rattle.building.specs.Holding.{Keeps}
+
+-- A sheet that was read, and all its states, no more than have room.
+pub record StatesKept (sheet : Sheet) (met : Met) : Type 0 where
+  pub read : SheetRead sheet
+  pub room : met .count ≤ stateLimit
+  pub keeps : Keeps sheet met (builtStates stateLimit sheet)
+
+-- One transition, from byte `at` on.
+pub record CellAsks (sheet : Sheet) (met : Met) (k : ℕ) (out : List ℕ) (at : ℕ) : Type 0 where
+  pub kept : StatesKept sheet met
+  pub known : k < sheet .head .kinds
+  pub there : at + transitionLength ≤ length out
+
+-- All rows, in the room of a whole table.
+pub record TableAsks (sheet : Sheet) (met : Met) (out : List ℕ) : Type 0 where
+  pub kept : StatesKept sheet met
+  pub there : rowAt (sheet .head .kinds) (met .count) ≤ length out
+
+-- One of them.
+pub record RowAsks (sheet : Sheet) (met : Met) (i : ℕ) (out : List ℕ) : Type 0 where
+  pub asks : TableAsks sheet met out
+  pub inside : i < met .count
+
+-- The kinds.
+pub record KindsAsk (sheet : Sheet) (out : List ℕ) : Type 0 where
+  pub read : SheetRead sheet
+  pub there : statesAt (sheet .head .kinds) ≤ length out
+
+-- What stands before the kinds: how many bytes follow, the version, the head.
+abbrev pub openingBytes : Head → ℕ → List ℕ
+openingBytes h follow = twoBytes follow ++ 1 ∷ h .registers ∷ h .width ∷ h .modulus ∷ h .kinds ∷ []
+
+-- What stands before the rows of so many states, in its room.
+abbrev pub frontBytes : Sheet → ℕ → List ℕ
+frontBytes sheet states =
+    (openingBytes (sheet .head) (rowAt (sheet .head .kinds) states - 2) ++ blocks (builtKind sheet) (sheet .head .kinds)) ++ states ∷ []
+
+pub record FrontAsks (sheet : Sheet) (states : ℕ) (out : List ℕ) : Type 0 where
+  pub read : SheetRead sheet
+  pub room : states ≤ stateLimit
+  pub there : rowsAt (sheet .head .kinds) ≤ length out
+
+-- Half way through blocks that are written one behind the other from byte `at` on: n of all are there.
+pub record BlocksLeft (block : ℕ → List ℕ) (at n all : ℕ) (before out : List ℕ) : Type 0 where
+  pub within : n ≤ all
+  pub there : out ≡ written before at (blocks block n)
+  pub long : length out ≡ length before
+
+-- 'Building: 11, 12', of a sheet that was read.
+abbrev pub tableNumber : Sheet → ℕ → ℕ
+tableNumber sheet room = orElse (statesNumber stateLimit sheet) (unless (leb (length (builtTable stateLimit sheet)) room) 12)
+
+-- The answer of building its table, and the lent memory afterwards.
+pub record BuildingIs (sheet : Sheet) (before : List ℕ) (answer : Building) (after : List ℕ) : Type 0 where
+  pub answers : answer ≡ buildAnswer (tableNumber sheet (length before)) (length (builtStates stateLimit sheet)) (length (builtTable stateLimit sheet))
+  pub memory : after ≡ buildWrites (tableNumber sheet (length before)) (builtTable stateLimit sheet) before

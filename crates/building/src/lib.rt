@@ -1,0 +1,386 @@
+// Building a sheet's table: exploring the allocation states, then writing. Document 01, 'The built table'.
+use convention::Allocation;
+use convention::Building;
+use convention::ByRules;
+use convention::Head;
+use convention::Offset;
+use convention::Placement;
+use convention::Reading;
+use convention::Sheet;
+ghost use mathlib.Core.Path.{_≡_};
+ghost use Prim.Native.Nat.{_+_, _%_, _≤_, _<_, _^_};
+ghost use mathlib.Core.List.{[], _∷_};
+ghost use lib.ListN.{length, replicate};
+ghost use lib.Dec.{eqb};
+ghost use Rattle.convention.specs.Numbers.{stateLimit};
+ghost use Rattle.convention.specs.Bytes.{written, blocks};
+ghost use Rattle.convention.specs.Tables.{rowsAt, rowAt};
+ghost use Rattle.convention.specs.Promised.{SheetRead};
+ghost use Rattle.convention.specs.Rules.{placeFault};
+ghost use Rattle.convention.specs.Explored.{met as metBefore};
+ghost use Rattle.convention.specs.Built.{allocation as allocationOf, sameFlags, sameAllocation, allocations, transitionBytes, builtTransition, builtRow, builtKind, builtStates, builtTable, build as builds, buildMemory};
+ghost use Rattle.building.specs.Reached.{firstAllocation};
+ghost use Rattle.building.specs.Holding.{firstMet, Finds, Holds, Meets, KindAsks, LeadIs, PassAsks, Passes, VisitAsks};
+ghost use Rattle.building.specs.Writing.{CellAsks, TableAsks, RowAsks, KindsAsk, openingBytes, FrontAsks, frontBytes, BuildingIs};
+
+// The states met, in the order of meeting: the first `count` of `states`. Once it is `over`, more were met than have room.
+pub struct Met {
+    pub states: [Allocation; 200],
+    pub count: usize,
+    pub over: bool,
+}
+
+// Whether two sets of registers are the same. The first register that differs ends the comparison.
+fn same_flags(a: [bool; 16], b: [bool; 16]) -> bool
+    ensures { λ r. ⌜ r ≡ sameFlags a b ⌝ }
+{
+    let mut i: usize = 0;
+    while i < 16 {
+        if a[i] != b[i] {
+            return false;
+        }
+        i += 1;
+    }
+    true
+}
+
+// Whether two allocation states are the same. Most that differ do so in the remainder, which is one comparison.
+fn same(a: Allocation, b: Allocation) -> bool
+    ensures { λ r. ⌜ r ≡ sameAllocation a b ⌝ }
+{
+    if a.remainder != b.remainder {
+        return false;
+    }
+    let flags = a.unavailable;
+    let other = b.unavailable;
+    same_flags(flags, other)
+}
+
+// The number of a state among those met: the place of the first that is the same, or their count where none is.
+fn find(met: Met, a: Allocation) -> usize
+    requires { ⌜ met .count ≤ 200 ⌝ }
+    ensures { λ r. ⌜ Finds met a r ⌝ }
+{
+    let mut i: usize = 0;
+    while i < met.count {
+        let state = met.states[i];
+        if same(state, a) {
+            return i;
+        }
+        i += 1;
+    }
+    i
+}
+
+// The first state, 'the empty set with 0'.
+fn first_state() -> Allocation
+    ensures { λ r. ⌜ r ≡ firstAllocation ⌝ }
+{
+    Allocation {
+        unavailable: [false; 16],
+        remainder: 0,
+    }
+}
+
+// Room for as many states as a table may have.
+fn room() -> [Allocation; 200]
+    ensures { λ r. ⌜ r ≡ replicate 200 firstAllocation ⌝ }
+{
+    let first = first_state();
+    [first; 200]
+}
+
+// Where the exploration begins: the first state alone was met.
+fn begin() -> Met
+    ensures { λ r. ⌜ r ≡ firstMet ⌝ }
+{
+    let states = room();
+    Met {
+        states,
+        count: 1,
+        over: false,
+    }
+}
+
+// A state met: kept behind the others if it is new and there is room for it.
+fn meet(met: Met, a: Allocation) -> Met
+    requires { ⌜ met .count ≤ 200 ⌝ }
+    ensures { λ r. ⌜ Meets met a r ⌝ }
+{
+    let at = find(met, a);
+    let mut more = met;
+    if at < met.count {
+        return more;
+    }
+    if met.count == 200 {
+        more.over = true;
+        return more;
+    }
+    more.states[at] = a;
+    more.count = at + 1;
+    more
+}
+
+// An offset's remainder by A.
+fn residue(modulus: u8, offset: Offset) -> u8
+    requires { ⌜ 0 < modulus ⌝ }
+    ensures { λ r. ⌜ r ≡ offset .0 % modulus ⌝ }
+{
+    (offset.0 % modulus as u32) as u8
+}
+
+// The allocation state in which placing by the rules stands.
+fn allocation(modulus: u8, s: ByRules) -> Allocation
+    requires { ⌜ 0 < modulus ⌝ }
+    ensures { λ r. ⌜ r ≡ allocationOf modulus s ⌝ }
+{
+    let unavailable = s.unavailable;
+    let p = s.p;
+    let remainder = residue(modulus, p);
+    Allocation {
+        unavailable,
+        remainder,
+    }
+}
+
+// Where a kind leads from an allocation state: the place that the rules give, and the state behind it.
+pub struct Led {
+    pub place: Placement,
+    pub next: Allocation,
+}
+
+// The rules' step from an allocation state, taken at p = its remainder.
+fn lead(sheet: Sheet, a: Allocation, k: u8) -> Led
+    requires { ⌜ KindAsks sheet k ⌝ }
+    ensures { λ r. ⌜ LeadIs sheet a k (r .place) (r .next) ⌝ }
+{
+    let head = sheet.head;
+    let kind = sheet.kinds[k as usize];
+    let unavailable = a.unavailable;
+    let from = ByRules {
+        unavailable,
+        p: Offset(a.remainder as u32),
+    };
+    let stepped = placing::step(head, kind, from);
+    let place = stepped.place;
+    let behind = stepped.next;
+    let next = allocation(head.modulus, behind);
+    Led { place, next }
+}
+
+// Whether there is a place. A step without one leads nowhere.
+fn is_place(place: Placement) -> bool
+    ensures { λ r. ⌜ r ≡ eqb (placeFault place) 0 ⌝ }
+{
+    match place {
+        Placement::Registers(_, _) => true,
+        Placement::Stack(_, _) => true,
+        Placement::Nowhere => false,
+    }
+}
+
+// Kind k gone through at a state: what it leads to is met, where it leads on.
+fn pass(sheet: Sheet, met: Met, a: Allocation, k: u8) -> Met
+    requires { ⌜ PassAsks sheet met k ⌝ }
+    ensures { λ r. ⌜ Passes sheet met a k r ⌝ }
+{
+    let led = lead(sheet, a, k);
+    let place = led.place;
+    if is_place(place) {
+        let next = led.next;
+        return meet(met, next);
+    }
+    met
+}
+
+// State i gone through, in the order of the kinds.
+fn visit(sheet: Sheet, met: Met, i: usize) -> Met
+    requires { ⌜ VisitAsks sheet met i ⌝ }
+    ensures { λ r. ⌜ Holds sheet r (metBefore (allocations sheet) (i + 1)) ⌝ }
+{
+    let from = met.states[i];
+    let kinds = sheet.head.kinds;
+    let mut more = met;
+    let mut k: u8 = 0;
+    while k < kinds {
+        more = pass(sheet, more, from, k);
+        k += 1;
+    }
+    more
+}
+
+// The states that lists of kinds reach, in the order of meeting: each that was met is gone through, by its number.
+fn explore(sheet: Sheet) -> Met
+    requires { ⌜ SheetRead sheet ⌝ }
+    ensures { λ r. ⌜ Holds sheet r (builtStates stateLimit sheet) ⌝ }
+{
+    let mut met = begin();
+    let mut i: usize = 0;
+    while i < met.count {
+        if met.over {
+            return met;
+        }
+        met = visit(sheet, met, i);
+        i += 1;
+    }
+    met
+}
+
+// Where the row of a state starts in a table of so many kinds; behind the last row, the table's length.
+fn row_at(kinds: u8, state: usize) -> usize
+    requires { ⌜ state ≤ 200 ⌝ }
+    ensures { λ r. ⌜ r ≡ rowAt kinds state ⌝ }
+    ensures { λ r. ⌜ r < 2 ^ 18 ⌝ }
+{
+    let m = kinds as usize;
+    7 + 2 * m + 1 + 4 * m * state
+}
+
+// Writes a transition's fields, one behind the other. Private: only a place says which fields belong together.
+fn write_fields(form: u8, a: u8, b: u8, next: u8, out: &mut [u8], at: usize)
+    requires { ⌜ at + 4 ≤ length (now out) ⌝ }
+    ensures { λ _. ⌜ now (out .exit) ≡ written (now (out .entry)) at (form ∷ a ∷ b ∷ next ∷ []) ⌝ }
+{
+    out[at] = form;
+    out[at + 1] = a;
+    out[at + 2] = b;
+    out[at + 3] = next;
+}
+
+// Writes the transition that is made of a place and the next state's number.
+fn write_transition(modulus: u8, place: Placement, next: u8, out: &mut [u8], at: usize)
+    requires { ⌜ (0 < modulus) × (at + 4 ≤ length (now out)) ⌝ }
+    ensures { λ _. ⌜ now (out .exit) ≡ written (now (out .entry)) at (transitionBytes modulus place next) ⌝ }
+{
+    match place {
+        Placement::Registers(first, count) => write_fields(1, first.0, count, next, out, at),
+        Placement::Stack(offset, count) => {
+            let a = residue(modulus, offset);
+            write_fields(2, a, count, next, out, at)
+        }
+        Placement::Nowhere => write_fields(0, 0, 0, 0, out, at),
+    }
+}
+
+// Writes where kind k goes from a state.
+fn write_cell(sheet: Sheet, met: Met, a: Allocation, k: u8, out: &mut [u8], at: usize)
+    requires { ⌜ CellAsks sheet met k (now out) at ⌝ }
+    ensures { λ _. ⌜ now (out .exit) ≡ written (now (out .entry)) at (builtTransition sheet (builtStates stateLimit sheet) a k) ⌝ }
+{
+    let led = lead(sheet, a, k);
+    let next = led.next;
+    let number = find(met, next);
+    let place = led.place;
+    write_transition(sheet.head.modulus, place, number as u8, out, at);
+}
+
+// Writes the row of state i, in the order of the kinds.
+fn write_row(sheet: Sheet, met: Met, i: usize, out: &mut [u8])
+    requires { ⌜ RowAsks sheet met i (now out) ⌝ }
+    ensures { λ _. ⌜ now (out .exit) ≡ written (now (out .entry)) (rowAt (sheet .head .kinds) i) (builtRow sheet (builtStates stateLimit sheet) i) ⌝ }
+{
+    let from = met.states[i];
+    let kinds = sheet.head.kinds;
+    let at = row_at(kinds, i);
+    let mut k: u8 = 0;
+    while k < kinds {
+        write_cell(sheet, met, from, k, out, at + 4 * k as usize);
+        k += 1;
+    }
+}
+
+// Writes a row for each state, in the order of their numbers.
+fn write_rows(sheet: Sheet, met: Met, out: &mut [u8])
+    requires { ⌜ TableAsks sheet met (now out) ⌝ }
+    ensures { λ _. ⌜ now (out .exit) ≡ written (now (out .entry)) (rowsAt (sheet .head .kinds)) (blocks (builtRow sheet (builtStates stateLimit sheet)) (met .count)) ⌝ }
+{
+    let mut i: usize = 0;
+    while i < met.count {
+        write_row(sheet, met, i, out);
+        i += 1;
+    }
+}
+
+// Writes the kinds' sizes and alignments, behind the seven bytes of the opening.
+fn write_kinds(sheet: Sheet, out: &mut [u8])
+    requires { ⌜ KindsAsk sheet (now out) ⌝ }
+    ensures { λ _. ⌜ now (out .exit) ≡ written (now (out .entry)) 7 (blocks (builtKind sheet) (sheet .head .kinds)) ⌝ }
+{
+    let kinds = sheet.head.kinds;
+    let mut k: u8 = 0;
+    while k < kinds {
+        let kind = sheet.kinds[k as usize];
+        let at = 7 + 2 * k as usize;
+        out[at] = kind.size;
+        out[at + 1] = kind.alignment;
+        k += 1;
+    }
+}
+
+// Writes what stands before the kinds: how many bytes follow the length, the version and the head.
+fn write_opening(head: Head, follow: usize, out: &mut [u8])
+    requires { ⌜ 7 ≤ length (now out) ⌝ }
+    ensures { λ _. ⌜ now (out .exit) ≡ written (now (out .entry)) 0 (openingBytes head follow) ⌝ }
+{
+    out[0] = (follow / 0x100 % 0x100) as u8;
+    out[1] = (follow % 0x100) as u8;
+    out[2] = 1;
+    out[3] = head.registers;
+    out[4] = head.width;
+    out[5] = head.modulus;
+    out[6] = head.kinds;
+}
+
+// Writes what stands before the rows: the opening, the kinds and N.
+fn write_front(sheet: Sheet, states: usize, out: &mut [u8])
+    requires { ⌜ FrontAsks sheet states (now out) ⌝ }
+    ensures { λ _. ⌜ now (out .exit) ≡ written (now (out .entry)) 0 (frontBytes sheet states) ⌝ }
+{
+    let head = sheet.head;
+    let kinds = head.kinds;
+    let len = row_at(kinds, states);
+    write_opening(head, len - 2, out);
+    write_kinds(sheet, out);
+    out[7 + 2 * kinds as usize] = states as u8;
+}
+
+// Writes the table of a sheet whose states were all met.
+fn write_table(sheet: Sheet, met: Met, out: &mut [u8])
+    requires { ⌜ TableAsks sheet met (now out) ⌝ }
+    ensures { λ _. ⌜ now (out .exit) ≡ written (now (out .entry)) 0 (builtTable stateLimit sheet) ⌝ }
+{
+    write_front(sheet, met.count, out);
+    write_rows(sheet, met, out);
+}
+
+// Builds the table of a sheet that was read, in 01's order of refusals: 11, 12.
+fn build_sheet(sheet: Sheet, out: &mut [u8]) -> Building
+    requires { ⌜ SheetRead sheet ⌝ }
+    ensures { λ r. ⌜ BuildingIs sheet (now (out .entry)) r (now (out .exit)) ⌝ }
+{
+    let met = explore(sheet);
+    if met.over {
+        return Building::Refused(11);
+    }
+    let len = row_at(sheet.head.kinds, met.count);
+    if out.len() < len {
+        return Building::Refused(12);
+    }
+    write_table(sheet, met, out);
+    Building::Built(met.count as u16, len)
+}
+
+// Builds a sheet's table: N and the table's length, with the table in the first bytes of `out`, or a refusal that writes
+// nothing. The contract gives the answer and the memory outright, so any two answers that it allows coincide.
+pub fn build(sheet: &[u8], out: &mut [u8]) -> Building
+    ensures { λ r. ⌜ r ≡ builds stateLimit (now (sheet .entry)) (length (now (out .entry))) ⌝ }
+    ensures { λ _. ⌜ now (out .exit) ≡ buildMemory stateLimit (now (sheet .entry)) (now (out .entry)) ⌝ }
+{
+    let answer = sheet::read_sheet(sheet);
+    let reading = answer.reading;
+    let read = answer.sheet;
+    match reading {
+        Reading::Read => build_sheet(read, out),
+        Reading::Refused(number) => Building::Refused(number),
+    }
+}
