@@ -6,7 +6,10 @@ fn main() {
     let library = top.join("target/staticlib");
     let archive = library.join("libteaselram.a");
     println!("cargo:rerun-if-changed={}", archive.display());
-    assert!(archive.exists(), "target/staticlib/libteaselram.a is missing: run `rt staticlib teaselram` first");
+    assert!(
+        archive.exists(),
+        "target/staticlib/libteaselram.a is missing: run `rt staticlib teaselram` first"
+    );
     println!("cargo:rustc-link-search=native={}", library.display());
     println!("cargo:rustc-link-lib=static=teaselram");
 }

@@ -1,50 +1,66 @@
-//! Calls of the proved library and of the second program side by side.
-use reference::Refusal;
+//! The proved library and the second program side by side, for the tests: `compare` has each call, `Lent` the memory lent to
+//! it, `damage` what spoils a file, `tables` tables made for the judge, and `raw` the answers with all their fields.
 
-/// What the library answers, in the second program's terms.
-pub fn same<T>(result: Result<T, teaselram::Refusal>) -> Result<T, Refusal> {
-    result.map_err(|r| Refusal { number: r.number, position: r.position, fault: r.fault })
+use std::env;
+
+use reference::{samples::Most, Refusal};
+
+pub mod compare;
+mod damage;
+mod lent;
+pub mod raw;
+pub mod tables;
+
+pub use damage::damage;
+pub use lent::Lent;
+
+/// The bounds of most seeded files: all that 01 allows, but for the number of states.
+pub const MOST: Most = Most {
+    registers: 16,
+    kinds: 8,
+    states: 20,
+};
+
+/// How many rounds a seeded test goes: `base` of them, times the environment's TEASELRAM_ROUNDS.
+pub fn rounds(base: usize) -> usize {
+    match env::var("TEASELRAM_ROUNDS") {
+        Ok(times) => base * times.parse::<usize>().expect("a number of rounds"),
+        Err(_) => base,
+    }
 }
 
-/// Lent memory filled with a pattern that no record has throughout.
-pub fn junk(room: usize) -> Vec<u8> {
-    (0..room).map(|i| 0xA5 ^ (i % 251) as u8).collect()
+/// A refusal of the second program's.
+pub fn refused(number: u8, position: usize, fault: u8) -> Refusal {
+    Refusal {
+        number,
+        position,
+        fault,
+    }
 }
 
-/// What lent memory holds after placing: the records, then the pattern; or the pattern alone.
-pub fn held(room: usize, written: &[u8]) -> Vec<u8> {
-    let mut held = junk(room);
-    held[..written.len()].copy_from_slice(written);
-    held
-}
+/// How often each number was answered; success counts as 0.
+#[derive(Default)]
+pub struct Numbers([usize; 14]);
 
-/// The library's placing by the rules held against the second program's: answer and whole memory.
-pub fn compare_rules(sheet: &[u8], kinds: &[u8], room: usize) -> Result<reference::Placed, Refusal> {
-    let mut out = junk(room);
-    let answer = same(teaselram::place_by_rules(sheet, kinds, &mut out));
-    let expected = reference::place_by_rules(sheet, kinds, room);
-    check(answer, expected.clone(), &out, room);
-    expected
-}
+impl Numbers {
+    /// Counts one answer.
+    pub fn note<T>(&mut self, answer: &Result<T, Refusal>) {
+        self.count(answer.as_ref().err().map_or(0, |refusal| refusal.number));
+    }
 
-/// The library's placing by a table held against the second program's: answer and whole memory.
-pub fn compare_table(table: &[u8], kinds: &[u8], room: usize) -> Result<reference::Placed, Refusal> {
-    let mut out = junk(room);
-    let answer = same(teaselram::place_by_table(table, kinds, &mut out));
-    let expected = reference::place_by_table(table, kinds, room);
-    check(answer, expected.clone(), &out, room);
-    expected
-}
+    /// Counts one answer by its number.
+    pub fn count(&mut self, number: u8) {
+        self.0[usize::from(number)] += 1;
+    }
 
-fn check(answer: Result<teaselram::Placed, Refusal>, expected: Result<reference::Placed, Refusal>, out: &[u8], room: usize) {
-    match (answer, expected) {
-        (Ok(placed), Ok(expected)) => {
-            assert_eq!((placed.count, placed.p), (expected.count, expected.p));
-            assert_eq!(out, held(room, &expected.records));
-        }
-        (answer, expected) => {
-            assert_eq!(answer.map(|_| ()), expected.map(|_| ()));
-            assert_eq!(out, junk(room));
+    /// Asserts that these numbers were answered, each so often, and no others.
+    pub fn assert_reached(&self, numbers: &[u8], at_least: usize) {
+        for (number, &count) in (0..).zip(&self.0) {
+            if numbers.contains(&number) {
+                assert!(count >= at_least, "number {number} only {count} times");
+            } else {
+                assert_eq!(count, 0, "number {number}");
+            }
         }
     }
 }

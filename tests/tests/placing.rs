@@ -1,45 +1,88 @@
-//! Placing and reading: the examples of document 01 and seeded input, the proved library beside the second program. Every
-//! comparison holds the answer and the whole lent memory, which is filled with a pattern beforehand.
-use comparison::{compare_rules, compare_table, same};
-use reference::{samples, Refusal};
+//! Placing by the rules and by a table: the examples of document 01 and seeded input, the library beside the second program.
 
-const MOST: samples::Most = samples::Most { registers: 16, kinds: 8, states: 20 };
+use comparison::{compare, damage, refused, rounds, Numbers, MOST};
+use reference::samples::{self, Xorshift, S};
+use reference::{Head, Refusal, Table, TableKind, Transition};
 
-fn refused(number: u8, position: usize, fault: u8) -> Refusal {
-    Refusal { number, position, fault }
-}
+/// Lists of these lengths are placed by seeded sheets and tables.
+const LENGTHS: [usize; 5] = [0, 1, 20, 400, 401];
 
 /// A record of six bytes, as 01 lays it out.
 fn record(form: u8, at: u8, count: u8) -> [u8; 6] {
     [form, 0, 0, 0, at, count]
 }
 
+/// Asserts where the rules place a list, with five bytes more than needed.
 fn places(sheet: &[u8], kinds: &[u8], records: &[[u8; 6]], p: u32) {
-    let placed = compare_rules(sheet, kinds, 6 * kinds.len() + 5).expect("every argument has a place");
-    assert_eq!((placed.records, placed.count, placed.p), (records.concat(), kinds.len(), p));
+    let placed = compare::place_by_rules(sheet, kinds, 6 * kinds.len() + 5)
+        .expect("every argument has a place");
+    assert_eq!(placed.records, records.concat());
+    assert_eq!((placed.count, placed.p), (kinds.len(), p));
+}
+
+/// S without stack for double, and its table.
+fn stackless() -> (Vec<u8>, Vec<u8>) {
+    let sheet = samples::s_with_double(|double| double.flags = 0);
+    let table = reference::build(&sheet, 158).expect("its table has 158 bytes");
+    (sheet, table)
+}
+
+/// A list of exactly so many known kinds.
+fn list(random: &mut Xorshift, kinds: u8, length: usize) -> Vec<u8> {
+    (0..length).map(|_| random.within(0..=kinds - 1)).collect()
+}
+
+/// A list and the room lent for it: mostly enough, now and then with an unknown kind or too little room.
+fn request(random: &mut Xorshift, kinds: u8, length: usize) -> (Vec<u8>, usize) {
+    let mut list = list(random, kinds, length);
+    let mut room = 6 * length + random.below(3) * 5;
+    if random.one_in(6) && length > 0 {
+        let at = random.below(length);
+        list[at] = random.pick(&[kinds, kinds + 1, 255]);
+    }
+    if random.one_in(10) && length > 0 {
+        room = random.below(6 * length);
+    }
+    (list, room)
 }
 
 #[test]
 fn p1_to_p5_and_p7() {
     let closing = samples::s_with_double(|double| double.flags = 3);
     let even = samples::s_with_double(|double| (double.flags, double.starts) = (3, vec![0, 2]));
-    places(&samples::S, &[], &[], 0);
-    places(&samples::S, &[0, 1, 1, 2], &[record(1, 0, 1), record(1, 1, 1), record(1, 2, 1), record(2, 0, 8)], 8);
-    places(&samples::S, &[2, 2, 0, 1], &[record(1, 0, 2), record(1, 2, 2), record(2, 0, 1), record(2, 4, 4)], 8);
-    places(&samples::S, &[0, 1, 1, 2, 1], &[record(1, 0, 1), record(1, 1, 1), record(1, 2, 1), record(2, 0, 8), record(1, 3, 1)], 8);
-    places(&closing, &[0, 1, 1, 2, 1], &[record(1, 0, 1), record(1, 1, 1), record(1, 2, 1), record(2, 0, 8), record(2, 8, 4)], 12);
-    places(&even, &[1, 2, 1], &[record(1, 0, 1), record(1, 2, 2), record(2, 0, 4)], 4);
+    let [r0, r1, r2, r3] = [0, 1, 2, 3].map(|register| record(1, register, 1));
+    places(&S, &[], &[], 0);
+    places(&S, &[0, 1, 1, 2], &[r0, r1, r2, record(2, 0, 8)], 8);
+    let pairs = [record(1, 0, 2), record(1, 2, 2)];
+    places(
+        &S,
+        &[2, 2, 0, 1],
+        &[pairs[0], pairs[1], record(2, 0, 1), record(2, 4, 4)],
+        8,
+    );
+    places(&S, &[0, 1, 1, 2, 1], &[r0, r1, r2, record(2, 0, 8), r3], 8);
+    places(
+        &closing,
+        &[0, 1, 1, 2, 1],
+        &[r0, r1, r2, record(2, 0, 8), record(2, 8, 4)],
+        12,
+    );
+    places(&even, &[1, 2, 1], &[r0, pairs[1], record(2, 0, 4)], 4);
 }
 
 #[test]
 fn p6_is_refused_at_its_position() {
-    let stackless = samples::s_with_double(|double| double.flags = 0);
-    assert_eq!(compare_rules(&stackless, &[0, 2, 2], 18), Err(refused(10, 2, 1)));
+    let (sheet, table) = stackless();
+    let expected = Err(refused(10, 2, 1));
+    assert_eq!(compare::place_by_rules(&sheet, &[0, 2, 2], 18), expected);
+    assert_eq!(compare::place_by_table(&table, &[0, 2, 2], 18), expected);
 }
 
 #[test]
 fn p8_to_p12_walked() {
-    let walk = |transition, kinds: &[u8]| compare_table(&samples::one_step_table(transition).bytes(), kinds, 60);
+    let walk = |transition, kinds: &[u8]| {
+        compare::place_by_table(&samples::one_step_table(transition).bytes(), kinds, 60)
+    };
     assert_eq!(walk([1, 0, 1, 0], &[0, 0]), Err(refused(10, 1, 2)));
     assert_eq!(walk([2, 0, 4, 0], &[0; 10]).map(|placed| placed.p), Ok(40));
     assert_eq!(walk([2, 0, 3, 0], &[0]), Err(refused(10, 0, 3)));
@@ -49,83 +92,151 @@ fn p8_to_p12_walked() {
 
 #[test]
 fn the_limit_is_400_arguments() {
-    for (count, answer) in [(400, None), (401, Some(refused(8, 0, 0)))] {
+    let table = reference::build(&S, 158).expect("the table of S has 158 bytes");
+    // A count of more than two bytes is not taken for its remainder.
+    for (count, number) in [
+        (400, None),
+        (401, Some(8)),
+        (65_536, Some(8)),
+        (65_936, Some(8)),
+    ] {
         let kinds = vec![1; count];
-        let table = reference::build(&samples::S, 1000).expect("S builds");
-        assert_eq!(compare_rules(&samples::S, &kinds, 6 * count).err(), answer);
-        assert_eq!(compare_table(&table, &kinds, 6 * count).err(), answer);
+        let refusal = number.map(|number| refused(number, 0, 0));
+        assert_eq!(
+            compare::place_by_rules(&S, &kinds, 6 * count).err(),
+            refusal
+        );
+        assert_eq!(
+            compare::place_by_table(&table, &kinds, 6 * count).err(),
+            refusal
+        );
     }
 }
 
 #[test]
 fn refusals_come_in_order() {
-    let stackless = samples::s_with_double(|double| double.flags = 0);
-    let mut long = vec![0; 401];
+    let (sheet, table) = stackless();
+    let mut long = vec![2; 401];
     long[3] = 9;
-    assert_eq!(compare_rules(&stackless, &long, 0), Err(refused(8, 0, 0)), "8 before 12 and 9");
-    assert_eq!(compare_rules(&stackless, &[2, 2, 2, 9], 23), Err(refused(12, 0, 0)), "12 before 9");
-    assert_eq!(compare_rules(&stackless, &[2, 2, 2, 9], 24), Err(refused(9, 3, 0)), "9 behind 10 comes first");
-    assert_eq!(compare_rules(&stackless, &[2, 2, 2, 1], 24), Err(refused(10, 2, 1)));
-    assert_eq!(compare_rules(&samples::S[..29], &long, 0), Err(refused(1, 0, 0)), "the reader's come before all");
+    let ordered: [(&str, &[u8], usize, Refusal); 4] = [
+        ("8 before 12 and 9", &long, 0, refused(8, 0, 0)),
+        ("12 before 9", &[2, 2, 2, 9], 23, refused(12, 0, 0)),
+        (
+            "9 before an earlier 10",
+            &[2, 2, 2, 9],
+            24,
+            refused(9, 3, 0),
+        ),
+        ("10 last", &[2, 2, 2, 1], 24, refused(10, 2, 1)),
+    ];
+    for (order, kinds, room, refusal) in ordered {
+        assert_eq!(
+            compare::place_by_rules(&sheet, kinds, room),
+            Err(refusal),
+            "{order}"
+        );
+        assert_eq!(
+            compare::place_by_table(&table, kinds, room),
+            Err(refusal),
+            "{order}"
+        );
+        let short = Err(refused(1, 0, 0));
+        assert_eq!(
+            compare::place_by_rules(&sheet[..29], kinds, room),
+            short,
+            "1 before {order}"
+        );
+        assert_eq!(
+            compare::place_by_table(&table[..157], kinds, room),
+            short,
+            "1 before {order}"
+        );
+    }
 }
 
+/// Every step skips 15 bytes before its 64: the residues go down by one, round and round.
 #[test]
-fn short_files_are_read_alike() {
-    for (bytes, number) in [(vec![0], 1), (vec![0, 0], 3), (vec![0, 1, 2], 2)] {
-        assert_eq!(same(teaselram::read_sheet(&bytes)).map(|_| ()), Err(refused(number, 0, 0)));
-        assert_eq!(same(teaselram::read_table(&bytes)).map(|_| ()), Err(refused(number, 0, 0)));
-    }
+fn the_largest_p() {
+    let step = |state: u8| Transition {
+        form: 2,
+        a: 15 - state,
+        b: 64,
+        next: (state + 1) % 16,
+    };
+    let table = Table {
+        head: Head {
+            registers: 0,
+            width: 1,
+            modulus: 16,
+            kinds: 1,
+        },
+        kinds: vec![TableKind {
+            size: 64,
+            alignment: 1,
+        }],
+        rows: (0..16).map(|state| vec![step(state)]).collect(),
+    };
+    let placed = compare::place_by_table(&table.bytes(), &[0; 400], 2400).expect("400 fit");
+    assert_eq!(placed.p, 31_600);
+    assert_eq!(placed.records[2394..], [2, 0, 0, 0x7B, 0x30, 64]);
 }
 
 #[test]
 fn seeded_sheets_place_alike() {
-    let mut random = samples::Xorshift::new(3);
-    let (mut placed, mut stopped) = (0, 0);
-    for _ in 0..3000 {
+    let mut random = Xorshift::new(11);
+    let mut numbers = [(); LENGTHS.len()].map(|_| Numbers::default());
+    for _ in 0..rounds(1200) {
         let sheet = samples::sheet(&mut random, MOST);
-        let kinds = samples::list(&mut random, sheet.head.kinds, 40);
-        let room = 6 * kinds.len() + random.below(3);
-        match compare_rules(&sheet.bytes(), &kinds, room) {
-            Ok(_) => placed += 1,
-            Err(_) => stopped += 1,
+        for (length, numbers) in LENGTHS.into_iter().zip(&mut numbers) {
+            let (kinds, room) = request(&mut random, sheet.head.kinds, length);
+            numbers.note(&compare::place_by_rules(&sheet.bytes(), &kinds, room));
         }
     }
-    assert!(placed > 300 && stopped > 300, "{placed} placed, {stopped} stopped");
+    let [none, one, some, most, more] = numbers;
+    none.assert_reached(&[0], 1200);
+    one.assert_reached(&[0, 9, 10, 12], 20);
+    some.assert_reached(&[0, 9, 10, 12], 20);
+    most.assert_reached(&[0, 9, 10, 12], 20);
+    more.assert_reached(&[8], 1200);
 }
 
 #[test]
-fn seeded_tables_place_alike_and_hand_out_their_rows() {
-    let mut random = samples::Xorshift::new(4);
-    let (mut placed, mut faults) = (0, [0; 5]);
-    for _ in 0..6000 {
+fn seeded_tables_place_alike() {
+    let mut random = Xorshift::new(12);
+    let mut numbers = [(); LENGTHS.len()].map(|_| Numbers::default());
+    let mut faults = [0; 5];
+    for _ in 0..rounds(2500) {
         let table = samples::table(&mut random, MOST);
-        let bytes = table.bytes();
-        let kinds = samples::list(&mut random, table.head.kinds, 6);
-        match compare_table(&bytes, &kinds, 6 * kinds.len()) {
-            Ok(_) => placed += 1,
-            Err(refusal) => faults[usize::from(refusal.fault)] += 1,
+        for (length, numbers) in LENGTHS.into_iter().zip(&mut numbers) {
+            let (kinds, room) = request(&mut random, table.head.kinds, length);
+            let answer = compare::place_by_table(&table.bytes(), &kinds, room);
+            numbers.note(&answer);
+            faults[usize::from(answer.err().map_or(0, |refusal| refusal.fault))] += 1;
         }
-        let state = random.below(table.rows.len() + 2) as u64;
-        let row = same(teaselram::row(&bytes, state)).map(|row| row.to_vec());
-        assert_eq!(row, reference::row(&bytes, state).map(|range| bytes[range].to_vec()));
     }
-    assert!(placed > 100 && faults[1..].iter().all(|&count| count > 50), "{placed} placed, faults {faults:?}");
+    let [none, one, some, most, more] = numbers;
+    none.assert_reached(&[0], 2500);
+    one.assert_reached(&[0, 9, 10, 12], 20);
+    some.assert_reached(&[0, 9, 10, 12], 20);
+    most.assert_reached(&[0, 9, 10, 12], 20);
+    more.assert_reached(&[8], 2500);
+    assert!(faults.iter().all(|&count| count > 100), "{faults:?}");
 }
 
 #[test]
-fn spoiled_files_are_read_alike() {
-    let mut random = samples::Xorshift::new(5);
-    let mut numbers = [0; 14];
-    for _ in 0..20_000 {
-        let (sheet, table) = (samples::sheet(&mut random, MOST).bytes(), samples::table(&mut random, MOST).bytes());
-        let (sheet, table) = (samples::spoil(&mut random, &sheet), samples::spoil(&mut random, &table));
-        let read = same(teaselram::read_sheet(&sheet)).map(|head| (head.registers, head.width, head.modulus, head.kinds));
-        let expected = reference::read_sheet(&sheet).map(|sheet| sheet.head).map(|h| (h.registers, h.width, h.modulus, h.kinds));
-        assert_eq!(read, expected);
-        let states = same(teaselram::read_table(&table)).map(|head| usize::from(head.states));
-        let expected = reference::read_table(&table).map(|table| table.rows.len());
-        assert_eq!(states, expected);
-        numbers[states.err().map_or(0, |refusal| usize::from(refusal.number))] += 1;
+fn damaged_files_place_alike() {
+    let mut random = Xorshift::new(13);
+    let (mut sheets, mut tables) = (Numbers::default(), Numbers::default());
+    for _ in 0..rounds(10_000) {
+        let sheet = samples::sheet(&mut random, MOST);
+        let (kinds, room) = request(&mut random, sheet.head.kinds, 6);
+        let damaged = damage(&mut random, &sheet.bytes());
+        sheets.note(&compare::place_by_rules(&damaged, &kinds, room));
+        let table = samples::table(&mut random, MOST);
+        let (kinds, room) = request(&mut random, table.head.kinds, 6);
+        let damaged = damage(&mut random, &table.bytes());
+        tables.note(&compare::place_by_table(&damaged, &kinds, room));
     }
-    assert!([0, 1, 2, 3, 4, 5, 6, 7].iter().all(|&number| numbers[number] > 20), "numbers reached: {numbers:?}");
+    sheets.assert_reached(&[0, 1, 2, 3, 4, 5, 6, 9, 10, 12], 50);
+    tables.assert_reached(&[0, 1, 2, 3, 4, 5, 6, 7, 9, 10, 12], 50);
 }

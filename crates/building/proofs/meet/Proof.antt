@@ -1,5 +1,5 @@
-use Rattle.building.proofs.Meeting.{length-mapped}
 -- `meet`: what `find` answers is the state's number, so the state is kept already, has no room, or is kept behind the others, as the definition appends it.
+use Rattle.building.proofs.Meeting.{length-mapped}
 use Rattle.building.proofs.Meeting.{meets-known, meets-over, meets-new}
 use borrow.Author.Needs.{needs}
 use Rattle.building.proofs.meet.Statement.{statement}

@@ -1,5 +1,5 @@
-use Rattle.judging.proofs.Listing.{keep-read, keep-write}
 -- `keep`: the first i kinds stand in their places, at each turn.
+use Rattle.judging.proofs.Listing.{keep-read, keep-write}
 use Prim.Native.Nat.{_-_, _≤_}
 use mathlib.Core.Path.{_≡_}
 use lib.Seq.{paste}

@@ -1,5 +1,5 @@
-use Rattle.judging.proofs.Listing.{trace-long, trace-read, trace-write}
 -- `write_found`: what is written behind the kinds that lead to entry i makes the whole list, at each turn.
+use Rattle.judging.proofs.Listing.{trace-long, trace-read, trace-write}
 use Rattle.judging.proofs.Listing.{trace-begin, trace-less, trace-turn, trace-end}
 use Rattle.judging.specs.Listed.{TraceLeft}
 use borrow.Author.Needs.{needs}

@@ -1,5 +1,5 @@
-use Rattle.judging.proofs.Memory.{clear-all}
 -- `clear`: the marks below `node` are 0, at each turn.
+use Rattle.judging.proofs.Memory.{clear-all}
 use Prim.Native.Nat.{_-_, _≤_}
 use Rattle.judging.proofs.Memory.{clear-none, clear-more}
 use Rattle.judging.specs.Memory.{Cleared}

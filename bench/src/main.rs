@@ -1,0 +1,18 @@
+//! The proved library's times beside those of plain Rust programs that do the same, as tables of ratios:
+//! `cargo run --release -p bench`. Before anything is timed, both are seen to answer and write the same.
+
+mod building;
+mod inputs;
+mod judging;
+mod placing;
+mod plain;
+mod timing;
+
+use teaselram::{Built, Placed, Refusal, Verdict};
+
+fn main() {
+    let inputs = inputs::all();
+    placing::report(&inputs);
+    building::report(&inputs);
+    judging::report(&inputs);
+}

@@ -1,0 +1,66 @@
+//! Tables made for the judge: every kind has one byte, w = A = 1, so that a step has no fault but 1 and 2 unless made so.
+
+use reference::{samples::Xorshift, Head, Table, TableKind, Transition};
+
+/// A transition to the stack.
+pub fn on_stack(next: u8) -> Transition {
+    Transition {
+        form: 2,
+        a: 0,
+        b: 1,
+        next,
+    }
+}
+
+/// A transition that gives `count` registers from `first` on.
+pub fn in_registers(first: u8, count: u8, next: u8) -> Transition {
+    Transition {
+        form: 1,
+        a: first,
+        b: count,
+        next,
+    }
+}
+
+/// The table of these rows.
+pub fn table(registers: u8, rows: Vec<Vec<Transition>>) -> Table {
+    let kind = TableKind {
+        size: 1,
+        alignment: 1,
+    };
+    let head = Head {
+        registers,
+        width: 1,
+        modulus: 1,
+        kinds: rows[0].len() as u8,
+    };
+    Table {
+        kinds: vec![kind; rows[0].len()],
+        head,
+        rows,
+    }
+}
+
+/// The table whose states stand in a ring: from each, the kind that `path` has for it goes on to the next by `step`, and
+/// every other kind stays by the stack. So whatever goes round goes by `path`.
+pub fn ring(
+    registers: u8,
+    kinds: u8,
+    path: &[u8],
+    step: impl Fn(usize, u8) -> Transition,
+) -> Table {
+    let row = |state: usize| {
+        let next = ((state + 1) % path.len()) as u8;
+        let transition = |kind| match kind == path[state] {
+            true => step(state, next),
+            false => on_stack(state as u8),
+        };
+        (0..kinds).map(transition).collect()
+    };
+    table(registers, (0..path.len()).map(row).collect())
+}
+
+/// A seeded path of a ring with so many states.
+pub fn path(random: &mut Xorshift, kinds: u8, states: usize) -> Vec<u8> {
+    (0..states).map(|_| random.within(0..=kinds - 1)).collect()
+}
