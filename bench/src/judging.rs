@@ -17,8 +17,8 @@ fn plain(table: &[u8], out: &mut [u8]) -> Result<Verdict, Refusal> {
     judge(&table::Table::read(table)?, out)
 }
 
-/// A clean table in which every search meets every state with the watched register given and without: a stair of sixteen
-/// states gives a register each or passes it by, and the states behind it lead to one another by the stack.
+/// A clean table that every search goes through whole: a stair of sixteen states gives a register each or passes it by, and
+/// the states behind it, met with the watched register given and without, lead to one another by the stack.
 fn clean(states: u8) -> Vec<u8> {
     let row = |state: u8| {
         let transition = |kind: u8| match state.checked_sub(REGISTERS) {

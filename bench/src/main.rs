@@ -6,12 +6,14 @@ mod inputs;
 mod judging;
 mod placing;
 mod plain;
+mod reading;
 mod timing;
 
 use teaselram::{Built, Placed, Refusal, Verdict};
 
 fn main() {
     let inputs = inputs::all();
+    reading::report(&inputs);
     placing::report(&inputs);
     building::report(&inputs);
     judging::report(&inputs);

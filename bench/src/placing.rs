@@ -49,51 +49,60 @@ impl Ways<'_> {
         assert_eq!(place(self.plain), library);
         assert_eq!(place(self.plain_placing), library);
     }
+}
 
-    fn times(&self, lists: &[Vec<u8>]) -> Times {
-        lists.iter().for_each(|list| self.assert_same(list));
-        let place_all = |placer: Placer, out: &mut [u8]| {
-            for list in lists {
-                _ = black_box(placer(black_box(list), out));
-            }
-        };
-        let [mut one, mut other, mut third] = [(); 3].map(|_| vec![0; 6 * lists[0].len()]);
-        let [library, reading, plain, plain_placing] = medians([
-            &mut || place_all(self.library, &mut one),
-            &mut || (self.library_reading)(),
-            &mut || place_all(self.plain, &mut other),
-            &mut || place_all(self.plain_placing, &mut third),
-        ]);
-        let a_list = |time| time / lists.len() as f64;
-        Times {
-            library: a_list(library),
-            plain: a_list(plain),
-            library_placing: a_list(library) - reading,
-            plain_placing: a_list(plain_placing),
+/// A job that places every list.
+fn place_all<'a>(placer: Placer<'a>, lists: &'a [Vec<u8>]) -> impl FnMut() + 'a {
+    let mut out = vec![0; 6 * lists[0].len()];
+    move || {
+        for list in lists {
+            _ = black_box(placer(black_box(list), &mut out));
         }
     }
 }
 
-fn by_rules(input: &Input, lists: &[Vec<u8>]) -> Times {
+/// The times of two sets of ways, which all take turns.
+fn times([one, other]: [&Ways; 2], lists: &[Vec<u8>]) -> [Times; 2] {
+    for list in lists {
+        one.assert_same(list);
+        other.assert_same(list);
+    }
+    let [a, b, c, d, e, f, g, h] = medians([
+        &mut place_all(one.library, lists),
+        &mut || (one.library_reading)(),
+        &mut place_all(one.plain, lists),
+        &mut place_all(one.plain_placing, lists),
+        &mut place_all(other.library, lists),
+        &mut || (other.library_reading)(),
+        &mut place_all(other.plain, lists),
+        &mut place_all(other.plain_placing, lists),
+    ]);
+    let a_list = |time| time / lists.len() as f64;
+    [[a, b, c, d], [e, f, g, h]].map(|[library, reading, plain, plain_placing]| Times {
+        library: a_list(library),
+        plain: a_list(plain),
+        library_placing: a_list(library) - reading,
+        plain_placing: a_list(plain_placing),
+    })
+}
+
+/// The times of placing by a sheet and by its table.
+fn by_rules_and_by_table(input: &Input, lists: &[Vec<u8>]) -> [Times; 2] {
     let sheet = Sheet::read(&input.sheet).expect("the sheet is read");
-    let ways = Ways {
+    let rules = Ways {
         library: &|list, out| teaselram::place_by_rules(black_box(&input.sheet), list, out),
         library_reading: &|| _ = black_box(teaselram::read_sheet(black_box(&input.sheet))),
         plain: &|list, out| Sheet::read(black_box(&input.sheet))?.place(list, out),
         plain_placing: &|list, out| sheet.place(list, out),
     };
-    ways.times(lists)
-}
-
-fn by_table(input: &Input, lists: &[Vec<u8>]) -> Times {
-    let table = Table::read(&input.table).expect("the table is read");
-    let ways = Ways {
+    let read = Table::read(&input.table).expect("the table is read");
+    let table = Ways {
         library: &|list, out| teaselram::place_by_table(black_box(&input.table), list, out),
         library_reading: &|| _ = black_box(teaselram::read_table(black_box(&input.table))),
         plain: &|list, out| Table::read(black_box(&input.table))?.place(list, out),
-        plain_placing: &|list, out| table.place(list, out),
+        plain_placing: &|list, out| read.place(list, out),
     };
-    ways.times(lists)
+    times([&rules, &table], lists)
 }
 
 /// One line of a table of ratios.
@@ -121,28 +130,23 @@ pub fn report(inputs: &[Input]) {
     let mut measured = Vec::new();
     for input in inputs {
         for length in LENGTHS {
-            let lists = input.lists(length);
-            measured.push((
-                input,
-                length,
-                by_rules(input, &lists),
-                by_table(input, &lists),
-            ));
+            let times = by_rules_and_by_table(input, &input.lists(length));
+            measured.push((input, length, times));
         }
     }
     head("Placing by the rules", "plain interpreter");
-    for (input, length, rules, _) in &measured {
+    for (input, length, [rules, _]) in &measured {
         line(input, *length, rules.of_library(), rules.of_plain());
     }
     head("Placing by a table", "plain walk");
-    for (input, length, _, table) in &measured {
+    for (input, length, [_, table]) in &measured {
         line(input, *length, table.of_library(), table.of_plain());
     }
     head(
-        "Placing by a table beside the interpreter of the sheet",
+        "By a table beside the interpreter of the sheet",
         "plain interpreter",
     );
-    for (input, length, rules, table) in &measured {
+    for (input, length, [rules, table]) in &measured {
         line(input, *length, table.of_library(), rules.of_plain());
     }
 }

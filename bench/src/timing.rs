@@ -3,10 +3,10 @@
 use std::time::{Duration, Instant};
 
 /// How many runs a median is taken of.
-const RUNS: usize = 41;
+const RUNS: usize = 101;
 
-/// A run repeats its job for at least so long.
-const RUN: Duration = Duration::from_millis(1);
+/// A run repeats its job for at least so long, which is short beside the time for which another program may take its place.
+const RUN: Duration = Duration::from_micros(400);
 
 /// The median time of each job in nanoseconds. The jobs' runs take turns, so that what disturbs one disturbs all.
 pub fn medians<const JOBS: usize>(mut jobs: [&mut dyn FnMut(); JOBS]) -> [f64; JOBS] {

@@ -30,3 +30,18 @@ HOLDS(faults_1_to_4, TEASELRAM_NO_PLACE == 1 && TEASELRAM_GIVEN_TWICE == 2 && TE
 HOLDS(longest_sheet, TEASELRAM_LONGEST_SHEET == 2 + 1 + 4 + 8 * (4 + 16));
 HOLDS(longest_table, TEASELRAM_LONGEST_TABLE == 2 + 1 + 4 + 8 * 2 + 1 + 4 * 8 * TEASELRAM_MOST_STATES);
 HOLDS(limits, TEASELRAM_MOST_ARGUMENTS == 400 && TEASELRAM_MOST_STATES == 200 && TEASELRAM_RECORD_LENGTH == 6);
+
+/* The calls once more, with C's linkage in C++ too: a declaration that differs from the header's does not compile. */
+#ifdef __cplusplus
+extern "C" {
+#endif
+struct teaselram_head teaselram_read_sheet(const uint8_t *, size_t);
+struct teaselram_head teaselram_read_table(const uint8_t *, size_t);
+struct teaselram_answer teaselram_row(const uint8_t *, size_t, uint64_t);
+struct teaselram_answer teaselram_place_by_rules(const uint8_t *, size_t, const uint8_t *, size_t, uint8_t *, size_t);
+struct teaselram_answer teaselram_place_by_table(const uint8_t *, size_t, const uint8_t *, size_t, uint8_t *, size_t);
+struct teaselram_answer teaselram_build(const uint8_t *, size_t, uint8_t *, size_t);
+struct teaselram_answer teaselram_judge(const uint8_t *, size_t, uint8_t *, size_t);
+#ifdef __cplusplus
+}
+#endif
