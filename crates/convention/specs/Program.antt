@@ -1,12 +1,18 @@
 -- Document 01, 'The program': the line that it prints.
-use Prim.Native.Nat.{ℕ, zero, suc, _+_, _/_, _%_}
+use Prim.Native.Nat.{ℕ, zero, suc, _+_, _/_, _%_, _≤_, _<_}
+use mathlib.Core.Path.{_≡_}
 use mathlib.Core.Bool.{Bool, true, false}
 use mathlib.Core.List.{List, [], _∷_, _++_}
 use lib.Dec.{ltb}
+use lib.ListN.{length, take}
 use Rattle.convention.specs.declared.Building.{Building}
 use Rattle.convention.specs.declared.Building.the-variants.{Built}
 use Rattle.convention.specs.declared.Judging.{Judging}
 use Rattle.convention.specs.declared.Judging.the-variants.{Clean, Fault}
+use Rattle.convention.specs.Numbers.{stateLimit, judgingSays}
+use Rattle.convention.specs.Sheets.{sheetOf}
+use Rattle.convention.specs.Built.{builtTable, build}
+use Rattle.convention.specs.Judged.{judgeRoom, Judges}
 
 -- 'Input of more than 1,024 bytes is read no further and prints `refused 1`.'
 abbrev pub inputLimit : ℕ
@@ -59,3 +65,16 @@ verdictFields (Judging.Refused number) list = []
 unfoldable pub line : Building → ℕ → Judging → List ℕ → List ℕ
 line (Built n len) m verdict list = decimal n ++ (further (decimal m) ++ (verdictFields verdict list ++ lineFeed))
 line (Building.Refused number) m verdict list = refusedLine number
+
+-- 'It reads one sheet from standard input, builds its table, judges it and prints one line': the text that it prints for an input. Building and
+-- judging have the room that they need: as many bytes as the table has, and in the judge's memory, which was `before` and is `after`, 2N.
+pub record Prints (input text : List ℕ) : Type 0 where
+  pub building : Building
+  pub verdict : Judging
+  pub before : List ℕ
+  pub after : List ℕ
+  pub long : inputLimit < length input → building ≡ Building.Refused 1
+  pub builds : length input ≤ inputLimit → building ≡ build stateLimit input (length (builtTable stateLimit (sheetOf input)))
+  pub room : (n len : ℕ) → building ≡ Built n len → judgeRoom (builtTable stateLimit (sheetOf input)) ≤ length before
+  pub judges : (n len : ℕ) → building ≡ Built n len → Judges stateLimit (builtTable stateLimit (sheetOf input)) before verdict after
+  pub prints : text ≡ line building (sheetOf input .head .kinds) verdict (take (judgingSays verdict .count) after)

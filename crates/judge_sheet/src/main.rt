@@ -1,0 +1,60 @@
+// The program of document 01, 'The program': reads one sheet from standard input, builds its table, judges it and prints one
+// line. What that line means is `Prints`, crates/convention/specs/Program.antt.
+use convention::Building;
+use convention::Judging;
+use libc::STDIN_FILENO;
+use libc::STDOUT_FILENO;
+ghost use mathlib.Core.Path.{_≡_};
+ghost use Prim.Native.Nat.{_≤_};
+ghost use lib.ListN.{length};
+ghost use Rattle.convention.specs.Numbers.{judgingSays};
+ghost use Rattle.convention.specs.Program.{Prints};
+ghost use Rattle.judge_sheet.specs.Texts.{lineRoom, TextIs, TableAsks, TableLine};
+
+// How many kinds the verdict's list has.
+fn list_length(verdict: Judging) -> usize
+    ensures { λ n. ⌜ n ≡ judgingSays verdict .count ⌝ }
+{
+    match verdict {
+        Judging::Clean => 0,
+        Judging::Fault(_, n) => n,
+        Judging::Refused(_) => 0,
+    }
+}
+
+// Judges a table that was built and writes its line. Answers how long it is.
+fn table_line(states: u16, kinds: u8, table: &[u8], out: &mut [u8]) -> usize
+    requires { ⌜ TableAsks states kinds (now table) (now out) ⌝ }
+    ensures { λ n. ⌜ TextIs (TableLine states kinds (now (table .entry))) n (now (out .exit)) ⌝ }
+{
+    let mut list = [0u8; 400];
+    let verdict = judging::judge(table, &mut list);
+    let n = list_length(verdict);
+    let building = Building::Built(states, table.len());
+    line::write_line(building, kinds, verdict, &list[..n], out)
+}
+
+// Writes the line of an input, of which the first 1,025 bytes are enough. Answers how long it is.
+fn answer(input: &[u8], out: &mut [u8]) -> usize
+    requires { ⌜ lineRoom ≤ length (now out) ⌝ }
+    ensures { λ n. ⌜ TextIs (Prints (now (input .entry))) n (now (out .exit)) ⌝ }
+{
+    if 1024 < input.len() {
+        return line::write_refused(1, out);
+    }
+    let kinds = fields::head_of(input).kinds;
+    let mut table = [0u8; 6424];
+    let building = building::build(input, &mut table);
+    match building {
+        Building::Built(states, len) => table_line(states, kinds, &table[..len], out),
+        Building::Refused(number) => line::write_refused(number, out),
+    }
+}
+
+fn main() {
+    let mut input = [0u8; 1025];
+    let read = io::read_full(STDIN_FILENO, &mut input);
+    let mut text = [0u8; 1024];
+    let n = answer(&input[..read], &mut text);
+    io::write_all(STDOUT_FILENO, &text[..n]);
+}

@@ -1,0 +1,4 @@
+pub mod Appending
+pub mod Cases
+pub mod Digits
+pub mod Lengths
