@@ -1,5 +1,5 @@
 //! The proved library's times beside those of plain Rust programs that do the same, as tables of ratios:
-//! `cargo run --release -p bench`. Before anything is timed, both are seen to answer and write the same.
+//! `cargo run --release -p bench`, on x86-64. Before anything is timed, both are seen to answer and write the same.
 
 mod building;
 mod inputs;
@@ -12,6 +12,10 @@ mod timing;
 use teaselram::{Built, Placed, Refusal, Verdict};
 
 fn main() {
+    if !cfg!(target_arch = "x86_64") {
+        eprintln!("bench: the library is x86-64 code and runs under an emulator here: its times would say nothing");
+        std::process::exit(1);
+    }
     let inputs = inputs::all();
     reading::report(&inputs);
     placing::report(&inputs);

@@ -1,8 +1,9 @@
 //! The boundary itself: every field of every answer, every number by every call, the C header and the C example.
 
-use std::path::{Path, PathBuf};
+use std::path::Path;
 use std::process::Command;
 
+use comparison::machine::{archive, top};
 use comparison::raw::{self, Answer, Head};
 use comparison::{damage, rounds, Numbers, MOST};
 use reference::samples::{self, Xorshift};
@@ -157,11 +158,6 @@ fn every_field_of_every_answer_and_every_number_of_every_call() {
     judge.assert_reached(&[0, 1, 2, 3, 4, 5, 6, 7, 12], 20);
 }
 
-/// The top of the repository.
-fn top() -> PathBuf {
-    Path::new(env!("CARGO_MANIFEST_DIR")).join("..")
-}
-
 /// Runs a command at the top of the repository and answers what it prints; any warning is an error.
 fn run(program: &str, arguments: &[&str]) -> String {
     let output = Command::new(program)
@@ -214,11 +210,13 @@ table: 12 states, 158 bytes
 verdict: fault 1 for char double double
 ";
 
-/// Compiles the example by the command that stands in its first comment, but for where the program goes, and runs it.
+/// Compiles the example by the command that stands in its first comment, but for where the program goes and which archive
+/// this machine links, and runs it.
 #[test]
 fn the_c_example_prints_its_lines() {
     let program = Path::new(env!("CARGO_TARGET_TMPDIR")).join("build_judge_place");
     let program = program.to_str().expect("a path of text");
+    let archive = archive();
     let source = std::fs::read_to_string(top().join(EXAMPLE)).expect("the example is there");
     let command = source
         .lines()
@@ -227,11 +225,11 @@ fn the_c_example_prints_its_lines() {
         .expect("the comment has the command")
         .split(' ')
         .collect();
-    let to = 1 + arguments
-        .iter()
-        .position(|&argument| argument == "-o")
-        .expect("an output");
+    let place = |wanted| arguments.iter().position(|&argument| argument == wanted);
+    let to = 1 + place("-o").expect("an output");
+    let linked = place("target/staticlib/libteaselram.a").expect("the archive");
     arguments[to] = program;
+    arguments[linked] = archive.to_str().expect("a path of text");
     run("gcc", &[&WARNINGS[..], &arguments].concat());
     assert_eq!(run(program, &[]), EXAMPLE_PRINTS);
 }

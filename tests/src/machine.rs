@@ -1,0 +1,37 @@
+//! What the tests run on this machine. The kit writes code for x86-64 alone, so the tests link and run that code as it is on
+//! x86-64. On any other processor it runs under the kit's emulator, by what stands in tests/emulated.
+
+use std::path::{Path, PathBuf};
+use std::process::Command;
+
+/// The top of the repository.
+pub fn top() -> PathBuf {
+    Path::new(env!("CARGO_MANIFEST_DIR")).join("..")
+}
+
+/// The archive with the calls of include/teaselram.h that this machine's programs link: the proved library itself, or the
+/// calls that send each request to it under the emulator. `rust/teaselram/build.rs` links the same.
+pub fn archive() -> PathBuf {
+    let native = cfg!(target_arch = "x86_64");
+    let folder = if native { "staticlib" } else { "emulated" };
+    top().join("target").join(folder).join("libteaselram.a")
+}
+
+/// A command that runs the proved program `name` of target/bin. Arguments that are added to it are the program's, and so are
+/// its standard input, output and status.
+///
+/// ```no_run
+/// let output = comparison::machine::program("judge_sheet").output();
+/// ```
+///
+/// Panics where the program has to be built first, and says by which command.
+pub fn program(name: &str) -> Command {
+    let program = top().join("target/bin").join(name);
+    assert!(
+        program.exists(),
+        "target/bin/{name} is missing: run `rt check {name}` first"
+    );
+    let mut command = Command::new(top().join("tests/emulated/run"));
+    command.arg(program);
+    command
+}
