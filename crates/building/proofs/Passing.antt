@@ -1,36 +1,24 @@
 -- The reader's numbers, the other way round: no number is given where the bytes are there and have the values that are promised of them.
-use Prim.Native.Nat.{ℕ, zero, suc, _+_, _*_, _/_, _%_, _≤_, _<_}
-use mathlib.Core.Path.{_≡_, refl, ap, _∙_}
+use Prim.Native.Nat.{ℕ, suc, _+_, _*_, _/_, _%_, _≤_, _<_}
+use mathlib.Core.Path.{_≡_, refl, _∙_}
 use mathlib.Core.Bool.{Bool, true, and-eq-true-iff}
 use mathlib.Core.List.{List}
-use native.Mathlib.Nat.{zero-add, add-zero, mul-zero, le-of-eq, mul-le-mul-left, mod-lt, div-add-mod, div-lt-iff-lt-mul}
+use native.Mathlib.Nat.{zero-add, le-of-eq, mul-le-mul-left, mod-lt, div-add-mod, div-lt-iff-lt-mul}
 use native.Mathlib.Omega.{arith}
 use lib.ListN.{length, getD, drop, length-drop, List·getD-append}
 use lib.Seq.{drop-drop}
 use borrow.Author.Tests.{le-leb, eq-eqb}
 use Rattle.convention.specs.declared.Head.{Head}
-use Rattle.convention.specs.Numbers.{orElse}
 use Rattle.convention.specs.Fields.{fieldNo, registersAt, widthAt, modulusAt, kindsCountAt, kindsAt, sizeAt, alignmentAt}
 use Rattle.convention.specs.Fields.{lengthNo, versionNo, headOf, headNo, shapeNo}
-use Rattle.convention.specs.Tables.{tableKindLength, tableKindOf, tableKindsNo, tableKindsOf, blankTableKind, statesAt, statesOf}
+use Rattle.convention.specs.Tables.{tableKindLength, tableKindOf, tableKindsNo, tableKindsOf, statesAt, statesOf}
 use Rattle.convention.specs.Tables.{transitionLength, transitionOf, isTransition, transitionNo, transitionsNo, rowsAt, transitionAt, tableNo, tableOf}
 use Rattle.convention.specs.Built.{behindLength}
 use Rattle.convention.specs.Promised.{HeadRead, ShapeRead, TableRead}
 use Rattle.convention.proofs.Bytes.{length-read}
 use Rattle.convention.proofs.Numbers.{or-on, unless-true, field-here}
-use Rattle.convention.proofs.Tables.{table-kinds-count}
-
--- Fields of w bytes one behind the other, each tested by `one` and `left` of them by `run`: where each passes, `run` gives no number.
-fields-pass : (w : ℕ) (one : ℕ → ℕ) (run : ℕ → ℕ → ℕ) → ((at : ℕ) → run at 0 ≡ 0)
-    → ((at left : ℕ) → run at (suc left) ≡ orElse (one at) (run (at + w) left))
-    → (at left : ℕ) → ((i : ℕ) → i < left → one (at + w * i) ≡ 0) → run at left ≡ 0
-fields-pass w one run none more at zero each = none at
-fields-pass w one run none more at (suc left) each =
-    more at left ∙ or-on (one at) _ (rw (mul-zero, add-zero) at (each 0 (omega arith)))
-    ∙ fields-pass w one run none more (at + w) left later
-  where
-    later : (i : ℕ) → i < left → one (at + w + w * i) ≡ 0
-    later i h = let place : at + w + w * i ≡ at + w * suc i = omega arith in rw place (each (suc i) (omega arith))
+use Rattle.convention.proofs.InTurn.{turns-pass}
+use Rattle.convention.proofs.Tables.{table-kinds-count, table-kind-at}
 
 -- One field.
 pub field-pass : (s : List ℕ) (k : ℕ) (right : Bool) (wrong : ℕ) → k < length s → right ≡ true → fieldNo s k right wrong ≡ 0
@@ -57,16 +45,6 @@ shape-pass h s l r =
     or-on _ _ (field-pass s sizeAt _ 5 (omega arith) (and-eq-true-iff _ _ .1 (le-leb _ _ (r .some), le-leb _ _ (r .size))))
     ∙ field-pass s alignmentAt _ 5 (omega arith) (and-eq-true-iff _ _ .1 (r .alignment, le-leb _ _ (r .within)))
 
--- A table's kind k is read from where k kinds end.
-pub table-kind-at : (left : ℕ) (s : List ℕ) (k : ℕ) → k < left
-    → getD (tableKindsOf s left) k blankTableKind ≡ tableKindOf (drop (tableKindLength * k) s)
-unfolding tableKindsOf
-table-kind-at zero s k h = absurd (omega arith)
-table-kind-at (suc left) s zero h = refl
-table-kind-at (suc left) s (suc k) h =
-    let place : tableKindLength + tableKindLength * k ≡ tableKindLength * suc k = omega arith in
-    table-kind-at left (drop tableKindLength s) k (omega arith) ∙ ap tableKindOf (rw (drop-drop, place))
-
 -- A table of which all that is promised holds.
 module _ (limit : ℕ) (t : List ℕ) (r : TableRead limit (tableOf t) t) where
   abbrev h : Head
@@ -76,20 +54,37 @@ module _ (limit : ℕ) (t : List ℕ) (r : TableRead limit (tableOf t) t) where
   kinds-pass : tableKindsNo h (drop kindsAt t) (h .kinds) ≡ 0
   unfolding tableOf tableKindsNo tableKindOf
   kinds-pass =
-      fields-pass tableKindLength (λ at. shapeNo h (drop at (drop kindsAt t))) (λ at left. tableKindsNo h (drop at (drop kindsAt t)) left)
-      (λ at. refl) (λ at left. rw (drop-drop tableKindLength at (drop kindsAt t))) 0 (h .kinds) (λ k b. rw zero-add (each k b))
+      turns-pass
+      (record {
+        long = λ at. tableKindLength;
+        one = λ at. shapeNo h (drop at (drop kindsAt t));
+        all = λ at left. tableKindsNo h (drop at (drop kindsAt t)) left;
+      })
+      tableKindLength
+      (record { none = λ at. refl; more = λ at left. rw (drop-drop tableKindLength at (drop kindsAt t)) })
+      (λ at. refl)
+      0
+      (h .kinds)
+      (λ k b. rw zero-add (each k b))
     where
       each : (k : ℕ) → k < h .kinds → shapeNo h (drop (tableKindLength * k) (drop kindsAt t)) ≡ 0
       each k b =
           let kinds = tableKindsOf (drop kindsAt t) (h .kinds) in
           shape-pass h _ (rw (length-drop, length-drop) (omega (arith, r .whole)))
-          (rw (List·getD-append kinds _ _ k (rw table-kinds-count b), table-kind-at (h .kinds) (drop kindsAt t) k b) at (r .kind k b))
+          (rw (List·getD-append kinds _ _ k (rw table-kinds-count b), table-kind-at (drop kindsAt t) (h .kinds) k _ b) at (r .kind k b))
 
   -- Nor do its transitions: of all, number j is that of state j / m and kind j % m.
   transitions-pass : transitionsNo h (statesOf t) t (rowsAt (h .kinds)) (h .kinds * statesOf t) ≡ 0
   unfolding tableOf transitionsNo transitionNo
   transitions-pass =
-      fields-pass transitionLength (transitionNo h (statesOf t) t) (transitionsNo h (statesOf t) t) (λ at. refl) (λ at left. refl) _ _ each
+      turns-pass
+      (record { long = λ at. transitionLength; one = transitionNo h (statesOf t) t; all = transitionsNo h (statesOf t) t })
+      transitionLength
+      (record { none = λ at. refl; more = λ at left. refl })
+      (λ at. refl)
+      _
+      _
+      each
     where
       each : (j : ℕ) → j < h .kinds * statesOf t → transitionNo h (statesOf t) t (rowsAt (h .kinds) + transitionLength * j) ≡ 0
       each j b =

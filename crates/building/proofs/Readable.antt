@@ -28,13 +28,13 @@ use Rattle.convention.specs.Built.{tableOfStates, builtStates, builtTable}
 use Rattle.convention.specs.Promised.{SheetRead, TableRead}
 use Rattle.convention.proofs.Bytes.{length-blocks, getD-block}
 use Rattle.convention.proofs.Sheets.{filled-length}
-use Rattle.convention.proofs.Tables.{table-kinds-count}
+use Rattle.convention.proofs.Tables.{table-kinds-count, table-kind-at}
 use Rattle.convention.proofs.Offsets.{modulus-pos}
 use Rattle.convention.proofs.Exploring.{met-some, closed}
 use Rattle.building.specs.Made.{made, madeTransition}
 use Rattle.building.proofs.Allocations.{allocations-decide}
 use Rattle.building.proofs.Places.{Gives, rules-give}
-use Rattle.building.proofs.Passing.{field-pass, length-pass, table-kind-at, table-pass}
+use Rattle.building.proofs.Passing.{field-pass, length-pass, table-pass}
 
 -- A transition takes four bytes, and they say the transition that is made of the place.
 made-length : (modulus : ℕ) (place : Placement) (next : ℕ) → length (transitionBytes modulus place next) ≡ transitionLength
@@ -170,7 +170,7 @@ module _ (sheet : Sheet) (l : List (Entry (allocations sheet))) where
       rw (
         head-bytes,
         List·getD-append (tableKindsOf from m) _ _ k (rw table-kinds-count h),
-        table-kind-at m from k h,
+        table-kind-at from m k _ h,
         getD-drop (tableKindLength * k) from sizeAt 0,
         getD-drop (tableKindLength * k) from alignmentAt 0,
         kind-byte k sizeAt h (omega arith),

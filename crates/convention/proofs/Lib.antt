@@ -1,6 +1,7 @@
 pub mod Offsets
 pub mod Bytes
 pub mod Numbers
+pub mod InTurn
 pub mod Lists
 pub mod Sheets
 pub mod Filled

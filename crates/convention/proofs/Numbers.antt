@@ -1,6 +1,6 @@
 -- Laws of answer numbers: what a chain of tests, one test and one field tell of a number, and what a number tells of them.
 use Prim.Native.Nat.{ℕ, zero, suc, _≤_, _<_}
-use mathlib.Core.Path.{_≡_, refl}
+use mathlib.Core.Path.{_≡_, refl, sym, _∙_}
 use mathlib.Core.Bool.{Bool, true, false}
 use mathlib.Core.List.{List}
 use native.Mathlib.Nat.{suc-ne-zero}
@@ -27,6 +27,13 @@ or-on a b e = rw e
 pub or-assoc : (a b c : ℕ) → orElse (orElse a b) c ≡ orElse a (orElse b c)
 or-assoc zero b c = refl
 or-assoc (suc a) b c = refl
+
+-- What code answers that makes the second test only where the first finds nothing wrong.
+pub or-first : (a b number : ℕ) → number ≡ a → (number ≡ 0 → ⊥) → number ≡ orElse a b
+or-first a b number e nz = e ∙ sym (or-here a b (rw (← e) (omega (arith, nz))))
+
+pub or-later : (a b number r : ℕ) → number ≡ a → number ≡ 0 → r ≡ b → r ≡ orElse a b
+or-later a b number r e z er = er ∙ sym (or-on a b (sym e ∙ z))
 
 -- One test: it passes exactly where it gives no number.
 pub unless-zero : (b : Bool) (n : ℕ) → 0 < n → unless b n ≡ 0 → b ≡ true

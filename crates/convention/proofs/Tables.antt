@@ -1,6 +1,6 @@
 -- Laws of reading a table and of asking for a row: what is promised, where the number is 0, of fields, of transitions and of the row's part.
 use Prim.Native.Nat.{ℕ, zero, suc, _+_, _*_, _≤_, _<_}
-use mathlib.Core.Path.{_≡_, refl}
+use mathlib.Core.Path.{_≡_, refl, _∙_}
 use mathlib.Core.Logic.{inl, inr}
 use mathlib.Core.Bool.{Bool, true, _&&_, cond, and-eq-true-iff}
 use mathlib.Core.List.{List}
@@ -9,7 +9,7 @@ use native.Mathlib.Decide.{decLe}
 use native.Mathlib.Omega.{arith}
 use lib.Dec.{ltb, leb, eqb, lit<}
 use lib.ListN.{length, getD, take, drop, length-take, length-drop, List·getD-append}
-use lib.Seq.{getD-take, getD-drop}
+use lib.Seq.{getD-take, getD-drop, drop-drop}
 use borrow.Author.Tests.{ltb-true, leb-true, eqb-true, ne-eqb}
 use Rattle.convention.specs.declared.Head.{Head}
 use Rattle.convention.specs.declared.TableKind.{TableKind}
@@ -64,6 +64,16 @@ module _ (h : Head) (states : ℕ) (x : Transition) (e : isTransition h states x
 pub table-kinds-count : (s : List ℕ) (left : ℕ) → length (tableKindsOf s left) ≡ left
 unfolding tableKindsOf
 table-kinds-count = behind-count (λ s. tableKindLength) tableKindOf tableKindsOf (λ s. refl) (λ s left. refl)
+
+-- Kind k is read from where k kinds end.
+pub table-kind-at : (s : List ℕ) (left k : ℕ) (d : TableKind) → k < left
+    → getD (tableKindsOf s left) k d ≡ tableKindOf (drop (tableKindLength * k) s)
+unfolding tableKindsOf
+table-kind-at s zero k d h = absurd (omega arith)
+table-kind-at s (suc left) zero d h = refl
+table-kind-at s (suc left) (suc k) d h =
+    let place : tableKindLength + tableKindLength * k ≡ tableKindLength * suc k = omega arith in
+    table-kind-at (drop tableKindLength s) left k d (omega arith) ∙ rw (drop-drop, place)
 
 pub table-kinds-read : (h : Head) (s : List ℕ) (left : ℕ) → tableKindsNo h s left ≡ 0
     → (i : ℕ) → i < left → (d : TableKind)

@@ -2,7 +2,7 @@
 use Prim.Native.Nat.{ℕ, zero, suc, _+_, _%_}
 use mathlib.Core.Bool.{Bool, true, false, _&&_, Bool·beq}
 use mathlib.Core.List.{List, [], _∷_, _++_}
-use lib.Dec.{ltb, leb, eqb}
+use lib.Dec.{leb, eqb}
 use lib.ListN.{length, drop}
 use Rattle.convention.specs.declared.Placement.{Placement}
 use Rattle.convention.specs.declared.Placement.the-variants.{Registers, Stack, Nowhere}
@@ -16,7 +16,6 @@ use Rattle.convention.specs.Bytes.{twoBytes, blocks}
 use Rattle.convention.specs.Sheets.{sheetKind, sheetNo, sheetOf}
 use Rattle.convention.specs.Rules.{noRegisters, byRules}
 use Rattle.convention.specs.Explored.{Automaton, Entry, entry, number, met}
-use Rattle.convention.specs.Lists.{Steps}
 
 -- 'An allocation state is the set of unavailable registers with p mod A': the one in which placing by the rules stands.
 abbrev pub allocation : ℕ → ByRules → Allocation

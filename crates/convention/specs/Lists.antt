@@ -1,6 +1,6 @@
 -- Document 01: what placing by the rules and placing by a table have in common. A list, argument by argument; records; the answer and the lent memory.
 use Prim.Native.Nat.{ℕ, zero, suc, _*_}
-use mathlib.Core.Bool.{Bool, true, false, cond}
+use mathlib.Core.Bool.{true, false, cond}
 use mathlib.Core.List.{List, [], _∷_, _++_}
 use lib.Dec.{ltb, leb}
 use lib.ListN.{length, drop}

@@ -7,7 +7,6 @@ use lib.ListN.{length, getD}
 use Rattle.convention.specs.declared.Head.{Head}
 use Rattle.convention.specs.declared.SheetKind.{SheetKind}
 use Rattle.convention.specs.declared.Sheet.{Sheet}
-use Rattle.convention.specs.declared.TableKind.{TableKind}
 use Rattle.convention.specs.declared.Table.{Table}
 use Rattle.convention.specs.Fields.{isWidth, isModulus}
 use Rattle.convention.specs.Sheets.{sheetKind, registersNeeded}

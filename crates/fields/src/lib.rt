@@ -4,7 +4,7 @@ use convention::Head;
 ghost use mathlib.Core.Path.{_≡_};
 ghost use lib.ListN.{getD};
 ghost use Rattle.convention.specs.Numbers.{orElse};
-ghost use Rattle.convention.specs.Fields.{fieldNo, lengthNo, versionNo, headOf, headNo, openingNo, isWidth, isModulus, isSize, isAlignment, shapeNo, leftOverNo};
+ghost use Rattle.convention.specs.Fields.{fieldNo, lengthNo, headOf, headNo, openingNo, isWidth, isModulus, isAlignment, shapeNo, leftOverNo};
 
 // The byte at k, 0 where there is none.
 pub fn byte_at(s: &[u8], k: usize) -> u8

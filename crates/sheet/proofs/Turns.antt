@@ -1,9 +1,9 @@
 -- One turn of each loop of the reader, on plain values: what is left answers the whole.
 use Prim.Native.Nat.{ℕ, zero, suc, _+_, _-_, _≤_, _<_}
-use mathlib.Core.Path.{_≡_, sym, _∙_}
+use mathlib.Core.Path.{_≡_, refl, sym, _∙_}
 use mathlib.Core.List.{List, _∷_, _++_, head-eq-of-cons-eq, tail-eq-of-cons-eq}
 use native.Mathlib.Omega.{arith}
-use native.Mathlib.Nat.{le-refl}
+use native.Mathlib.Nat.{le-refl, add-zero}
 use native.Mathlib.Numerals.{add-one}
 use lib.Dec.{leb}
 use lib.ListN.{length, getD, take, drop, set, replicate, length-drop}
@@ -16,68 +16,84 @@ use Rattle.convention.proofs.Parts.{rest-of}
 use Rattle.convention.proofs.Filled.{filled, fill-turn, fill-done}
 use Rattle.convention.proofs.Sheets.{kind-tries, kind-length, kinds-count}
 use Rattle.sheet.specs.Kinds.{KindsAre, KindsLeft, KindWhole, KindsRight, KindsStored}
-use Rattle.convention.proofs.Numbers.{or-zero, or-on, or-here}
+use Rattle.convention.proofs.Numbers.{or-zero}
+use Rattle.convention.proofs.InTurn.{Things, InTurn, turn-right, turn-wrong, turn-end}
 
--- The code's count down to the definition's.
-suc-sub-one : (n : ℕ) → suc n - 1 ≡ n
-suc-sub-one n = omega arith
+-- The starts of a kind, a byte each. A start that is right leaves the number of the others; one that is not gives its own.
+abbrev startsInTurn : ℕ → ℕ → List ℕ → Things
+startsInTurn n k s = record { long = λ at. 1; one = λ at. fieldNo s at (leb (getD s at 0 + k) n) 5; all = startsNo n k s }
 
--- A start that is right leaves the number of the others; one that is not gives its own.
-pub starts-more : (n k : ℕ) (s : List ℕ) (at left w start number : ℕ)
-    → startsNo n k s at left ≡ w → 0 < left → start ≡ getD s at 0 → number ≡ fieldNo s at (leb (start + k) n) 5 → number ≡ 0
-    → startsNo n k s (at + 1) (left - 1) ≡ w
+starts-turns : (n k : ℕ) (s : List ℕ) → InTurn (startsInTurn n k s)
 unfolding startsNo
-starts-more n k s at zero w start number inv h es en ez = absurd (omega arith)
-starts-more n k s at (suc left) w start number inv h es en ez =
-    let right : fieldNo s at (leb (getD s at 0 + k) n) 5 ≡ 0 = rw (← es) (sym en ∙ ez) in
-    rw (suc-sub-one left) (sym (or-on _ _ right) ∙ inv)
+starts-turns n k s = record { none = λ at. refl; more = λ at left. refl }
 
-pub starts-hit : (n k : ℕ) (s : List ℕ) (at left w start number : ℕ)
-    → startsNo n k s at left ≡ w → 0 < left → start ≡ getD s at 0 → number ≡ fieldNo s at (leb (start + k) n) 5 → (number ≡ 0 → ⊥)
-    → number ≡ w
-unfolding startsNo
-starts-hit n k s at zero w start number inv h es en nz = absurd (omega arith)
-starts-hit n k s at (suc left) w start number inv h es en nz =
-    let wrong : number ≡ fieldNo s at (leb (getD s at 0 + k) n) 5 = rw (← es) en in
-    let more : 0 < fieldNo s at (leb (getD s at 0 + k) n) 5 = rw (← wrong) (omega (arith, nz)) in
-    wrong ∙ (sym (or-here _ _ more) ∙ inv)
+module _ (n k : ℕ) (s : List ℕ) (at left w : ℕ) (inv : startsNo n k s at left ≡ w) where
+  module _ (start number : ℕ) (h : 0 < left) (es : start ≡ getD s at 0) (en : number ≡ fieldNo s at (leb (start + k) n) 5) where
+    here : number ≡ fieldNo s at (leb (getD s at 0 + k) n) 5
+    here = rw (← es) en
 
-pub starts-end : (n k : ℕ) (s : List ℕ) (at left w : ℕ) → startsNo n k s at left ≡ w → left ≤ 0 → 0 ≡ w
-unfolding startsNo
-starts-end n k s at zero w inv h = inv
-starts-end n k s at (suc left) w inv h = absurd (omega arith)
+    pub starts-more : number ≡ 0 → startsNo n k s (at + 1) (left - 1) ≡ w
+    starts-more z = turn-right (startsInTurn n k s) (starts-turns n k s) w at left number inv h here z
 
--- A kind that is right leaves the number and the end of the others; one that is not gives its own number.
-pub kinds-turn : (h : Head) (s : List ℕ) (at left number len : ℕ)
-    → KindsLeft h s at left → 0 < left → number ≡ sheetKindNo h (take (length s - at) (drop at s)) → number ≡ 0
-    → len ≡ sheetKindLength (take (length s - at) (drop at s))
-    → KindsLeft h s (at + len) (left - 1)
-unfolding sheetKindsNo sheetKindsLength
-kinds-turn h s at zero number len inv t en ez el = absurd (omega arith)
-kinds-turn h s at (suc left) number len inv t en ez el =
-    let right : sheetKindNo h (drop at s) ≡ 0 = rw (← rest-of s at) (sym en ∙ ez) in
-    let long : len ≡ sheetKindLength (drop at s) = rw (← rest-of s at) el in
-    let next : drop (at + len) s ≡ drop (sheetKindLength (drop at s)) (drop at s) = rw (drop-drop, long) in
-    record {
-      within = omega (arith, simp length-drop at (kind-length h (drop at s) right), inv .within);
-      numbers = rw (suc-sub-one left, next) (sym (or-on _ _ right) ∙ inv .numbers);
-      lengths = rw (suc-sub-one left, next) (omega (arith, inv .lengths, long));
-    }
+    pub starts-hit : (number ≡ 0 → ⊥) → number ≡ w
+    starts-hit nz = turn-wrong (startsInTurn n k s) (starts-turns n k s) w at left number inv h here nz
 
-pub kinds-hit : (h : Head) (s : List ℕ) (at left number : ℕ)
-    → KindsLeft h s at left → 0 < left → number ≡ sheetKindNo h (take (length s - at) (drop at s)) → (number ≡ 0 → ⊥)
-    → KindsAre h s number 0
+  pub starts-end : left ≤ 0 → 0 ≡ w
+  starts-end h = turn-end (startsInTurn n k s) (starts-turns n k s) w at left inv h
+
+-- The kinds, each where the one before it ends. A kind that is right leaves the number and the end of the others; one that is not gives its own number.
+abbrev kindsInTurn : Head → List ℕ → Things
+kindsInTurn h s = record {
+  long = λ at. sheetKindLength (drop at s);
+  one = λ at. sheetKindNo h (drop at s);
+  all = λ at left. sheetKindsNo h (drop at s) left;
+}
+
+kinds-turns : (h : Head) (s : List ℕ) → InTurn (kindsInTurn h s)
 unfolding sheetKindsNo
-kinds-hit h s at zero number inv t en nz = absurd (omega arith)
-kinds-hit h s at (suc left) number inv t en nz =
-    let wrong : number ≡ sheetKindNo h (drop at s) = rw (← rest-of s at) en in
-    let more : 0 < sheetKindNo h (drop at s) = rw (← wrong) (omega (arith, nz)) in
-    record { first = wrong ∙ (sym (or-here _ _ more) ∙ inv .numbers); ends = λ z. absurd (nz z) }
+kinds-turns h s = record { none = λ at. refl; more = λ at left. rw (← drop-drop (sheetKindLength (drop at s)) at s) }
 
-pub kinds-end : (h : Head) (s : List ℕ) (at left : ℕ) → KindsLeft h s at left → left ≤ 0 → KindsAre h s 0 at
-unfolding sheetKindsNo sheetKindsLength
-kinds-end h s at zero inv t = record { first = inv .numbers; ends = λ z. omega (arith, inv .lengths) }
-kinds-end h s at (suc left) inv t = absurd (omega arith)
+-- Where the last one ends: behind one more, and where none is left.
+lengths-on : (s : List ℕ) (at left : ℕ) → 0 < left
+    → at + sheetKindLength (drop at s) + sheetKindsLength (drop (at + sheetKindLength (drop at s)) s) (left - 1) ≡ at + sheetKindsLength (drop at s) left
+unfolding sheetKindsLength
+lengths-on s at zero t = absurd (omega arith)
+lengths-on s at (suc left) t =
+    let less : suc left - 1 ≡ left = omega arith in
+    rw (less, ← drop-drop (sheetKindLength (drop at s)) at s) (omega arith)
+
+lengths-end : (s : List ℕ) (at left : ℕ) → left ≤ 0 → at + sheetKindsLength (drop at s) left ≡ at
+unfolding sheetKindsLength
+lengths-end s at zero t = add-zero at
+lengths-end s at (suc left) t = absurd (omega arith)
+
+module _ (h : Head) (s : List ℕ) (at left : ℕ) (inv : KindsLeft h s at left) where
+  module _ (number : ℕ) (t : 0 < left) (en : number ≡ sheetKindNo h (take (length s - at) (drop at s))) where
+    this : number ≡ sheetKindNo h (drop at s)
+    this = rw (← rest-of s at) en
+
+    pub kinds-turn : (len : ℕ) → number ≡ 0 → len ≡ sheetKindLength (take (length s - at) (drop at s)) → KindsLeft h s (at + len) (left - 1)
+    kinds-turn len z el =
+        let long : len ≡ sheetKindLength (drop at s) = rw (← rest-of s at) el in
+        record {
+          within = omega (arith, simp length-drop at (kind-length h (drop at s) (sym this ∙ z)), inv .within);
+          numbers = rw long (turn-right (kindsInTurn h s) (kinds-turns h s) _ at left number (inv .numbers) t this z);
+          lengths = rw long (lengths-on s at left t ∙ inv .lengths);
+        }
+
+    pub kinds-hit : (number ≡ 0 → ⊥) → KindsAre h s number 0
+    kinds-hit nz =
+        record {
+          first = turn-wrong (kindsInTurn h s) (kinds-turns h s) _ at left number (inv .numbers) t this nz;
+          ends = λ z. absurd (nz z);
+        }
+
+  pub kinds-end : left ≤ 0 → KindsAre h s 0 at
+  kinds-end t =
+      record {
+        first = turn-end (kindsInTurn h s) (kinds-turns h s) _ at left (inv .numbers) t;
+        ends = λ z. sym (lengths-end s at left t) ∙ inv .lengths;
+      }
 
 -- One more start in its place.
 pub start-stored : (s starts : List ℕ) (tries i : ℕ)

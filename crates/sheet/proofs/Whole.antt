@@ -2,14 +2,13 @@
 use Prim.Native.Nat.{ℕ, zero, suc}
 use mathlib.Core.Path.{_≡_, refl, sym, _∙_}
 use mathlib.Core.List.{List}
-use native.Mathlib.Omega.{arith}
 use Rattle.convention.specs.declared.Head.{Head}
 use Rattle.convention.specs.declared.Reading.{Reading}
 use Rattle.convention.specs.declared.SheetAnswer.{SheetAnswer}
 use Rattle.convention.specs.Numbers.{orElse, reading}
 use Rattle.convention.specs.Fields.{headOf, openingNo, leftOverNo}
 use Rattle.convention.specs.Sheets.{sheetNo, sheetOf, sheetGiven, blankSheet, readSheet}
-use Rattle.convention.proofs.Numbers.{or-zero, or-here, or-on}
+use Rattle.convention.proofs.Numbers.{or-zero, or-on, or-first}
 use Rattle.convention.proofs.Offsets.{width-pos}
 use Rattle.convention.proofs.Sheets.{head-there, head-read, opening-head}
 use Rattle.sheet.specs.Kinds.{HeadThere, KindsAre, KindsRight}
@@ -24,7 +23,7 @@ opened h s number en ez eh =
 -- An opening that is wrong gives the sheet's number; else the kinds and what is left over do.
 pub number-opening : (s : List ℕ) (number : ℕ) → number ≡ openingNo s → (number ≡ 0 → ⊥) → number ≡ sheetNo s
 unfolding sheetNo
-number-opening s number en nz = en ∙ sym (or-here (openingNo s) _ (rw (← en) (omega (arith, nz))))
+number-opening s number en nz = or-first _ _ number en nz
 
 pub number-kinds : (h : Head) (s : List ℕ) (opening number end over r : ℕ)
     → opening ≡ openingNo s → opening ≡ 0 → h ≡ headOf s → KindsAre h s number end → over ≡ leftOverNo s end → r ≡ orElse number over

@@ -9,9 +9,8 @@ use convention::SheetKind;
 ghost use mathlib.Core.Path.{_≡_};
 ghost use mathlib.Core.List.{_++_};
 ghost use Prim.Native.Nat.{_+_, _-_, _≤_, _<_};
-ghost use lib.ListN.{length, getD, take, drop, replicate};
-ghost use Rattle.convention.specs.Fields.{headOf};
-ghost use Rattle.convention.specs.Sheets.{registersNeeded, sheetKindLength, startsNo, sheetKindNo, sheetKindOf, sheetKindsNo, sheetKindsOf, sheetEnd, sheetNo, sheetOf, blankKind, blankSheet, readSheet};
+ghost use lib.ListN.{length, take, drop, replicate};
+ghost use Rattle.convention.specs.Sheets.{registersNeeded, sheetKindLength, startsNo, sheetKindNo, sheetKindOf, sheetKindsOf, sheetNo, sheetOf, blankKind, blankSheet, readSheet};
 ghost use Rattle.sheet.specs.Kinds.{HeadThere, KindsAre, KindWhole, KindsRight};
 
 // 'A kind needs k registers, size / w rounded up.'

@@ -1,4 +1,3 @@
-pub mod InOrder
 pub mod Runs
 pub mod Stored
 pub mod Whole

@@ -17,9 +17,9 @@ use Rattle.convention.specs.Numbers.{unless}
 use Rattle.convention.specs.Fields.{headOf}
 use Rattle.convention.specs.Tables.{statesAt, transitionOf, isTransition, transitionNo, rowLength, rowAt, tableNo, transitionAt, rowNo, rowGiven, row}
 use Rattle.convention.specs.Promised.{TableRead}
+use Rattle.convention.proofs.Numbers.{or-first, or-later}
 use Rattle.convention.proofs.Tables.{row-part, row-is}
 use Rattle.table.specs.Asked.{InTable}
-use Rattle.table.proofs.InOrder.{first, later}
 
 -- The number of a transition whose four bytes are there.
 pub transition-number : (h : Head) (states : ℕ) (t : List ℕ) (at : ℕ) (x : Transition) (right b : Bool)
@@ -50,12 +50,12 @@ transition-within limit table t state k read asked =
 module _ (limit : ℕ) (t : List ℕ) (state number : ℕ) (e : number ≡ tableNo limit t) where
   pub number-table : (number ≡ 0 → ⊥) → number ≡ rowNo limit t state
   unfolding rowNo
-  number-table nz = first _ _ number e nz
+  number-table nz = or-first _ _ number e nz
 
   module _ (h : Head) (states : ℕ) (z : number ≡ 0) (eh : h ≡ headOf t) (es : states ≡ getD t (statesAt (h .kinds)) 0) where
     number-state : (r : ℕ) → r ≡ unless (ltb state states) 13 → r ≡ rowNo limit t state
     unfolding rowNo
-    number-state r er = rw (← eh, ← es) (later _ _ number r e z er)
+    number-state r er = rw (← eh, ← es) (or-later _ _ number r e z er)
 
     pub state-known : state < states → 0 ≡ rowNo limit t state
     state-known l = number-state 0 (rw (lt-ltb _ _ l))

@@ -1,6 +1,6 @@
 -- Storing a table's kinds, each parsed from the part of the table that starts at its first byte.
-use Prim.Native.Nat.{ℕ, zero, suc, _+_, _-_, _*_, _≤_, _<_}
-use mathlib.Core.Path.{_≡_, refl, sym, _∙_}
+use Prim.Native.Nat.{ℕ, _+_, _-_, _*_, _≤_, _<_}
+use mathlib.Core.Path.{_≡_, sym, _∙_}
 use mathlib.Core.List.{List, _++_}
 use native.Mathlib.Nat.{le-refl}
 use native.Mathlib.Omega.{arith}
@@ -12,17 +12,8 @@ use Rattle.convention.specs.Fields.{kindsAt}
 use Rattle.convention.specs.Tables.{tableKindLength, tableKindOf, tableKindsOf, blankTableKind}
 use Rattle.convention.proofs.Filled.{filled, fill-turn, fill-done}
 use Rattle.convention.proofs.Parts.{rest-of}
-use Rattle.convention.proofs.Tables.{table-kinds-count}
+use Rattle.convention.proofs.Tables.{table-kinds-count, table-kind-at}
 use Rattle.table.specs.Asked.{KindsThere}
-
--- Kind i of all.
-kind-at : (s : List ℕ) (left i : ℕ) (d : TableKind) → i < left → getD (tableKindsOf s left) i d ≡ tableKindOf (drop (tableKindLength * i) s)
-unfolding tableKindsOf
-kind-at s zero i d l = absurd (omega arith)
-kind-at s (suc left) zero d l = refl
-kind-at s (suc left) (suc i) d l =
-    let place : tableKindLength + tableKindLength * i ≡ tableKindLength * suc i = omega arith in
-    kind-at (drop tableKindLength s) left i d (omega arith) ∙ rw (drop-drop, place)
 
 module _ (h : Head) (t : List ℕ) where
   abbrev all : List TableKind
@@ -34,7 +25,7 @@ module _ (h : Head) (t : List ℕ) where
       → kind ≡ tableKindOf (take (length t - (kindsAt + tableKindLength * i)) (drop (kindsAt + tableKindLength * i) t))
       → set kinds i kind ≡ filled all 8 blankTableKind (i + 1)
   kind-stored kinds i kind asked inv l e =
-      let here : getD all i kind ≡ kind = kind-at (drop kindsAt t) (h .kinds) i kind l ∙ sym (rw (drop-drop, ← rest-of) e) in
+      let here : getD all i kind ≡ kind = table-kind-at (drop kindsAt t) (h .kinds) i kind l ∙ sym (rw (drop-drop, ← rest-of) e) in
       fill-turn all 8 blankTableKind kinds i kind kind inv (omega (arith, asked .count)) (rw table-kinds-count l) here
 
   -- All kinds in their places.

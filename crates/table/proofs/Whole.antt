@@ -13,16 +13,15 @@ use Rattle.convention.specs.declared.TableAnswer.{TableAnswer}
 use Rattle.convention.specs.Numbers.{orElse, reading}
 use Rattle.convention.specs.Fields.{fieldNo, kindsAt, headOf, openingNo, leftOverNo}
 use Rattle.convention.specs.Tables.{tableKindsNo, statesAt, transitionsNo, rowsAt, rowAt, tableNo, tableOf, tableGiven, blankTable, readTable}
-use Rattle.convention.proofs.Numbers.{field-zero}
+use Rattle.convention.proofs.Numbers.{or-first, or-later, field-zero}
 use Rattle.convention.proofs.Sheets.{head-there, opening-head}
 use Rattle.convention.proofs.Tables.{table-read}
 use Rattle.table.specs.Asked.{KindsThere}
-use Rattle.table.proofs.InOrder.{first, later}
 
 -- An opening that is wrong gives the table's number; one that is right has a head behind which the kinds begin.
 pub number-opening : (limit : ℕ) (t : List ℕ) (number : ℕ) → number ≡ openingNo t → (number ≡ 0 → ⊥) → number ≡ tableNo limit t
 unfolding tableNo
-number-opening limit t number e nz = first _ _ number e nz
+number-opening limit t number e nz = or-first _ _ number e nz
 
 pub opened : (t : List ℕ) (number : ℕ) → number ≡ openingNo t → number ≡ 0 → kindsAt ≤ length t
 opened t number e z = head-there t (opening-head t (sym e ∙ z))
@@ -32,20 +31,20 @@ module _ (limit : ℕ) (t : List ℕ) (h : Head) (opening kinds : ℕ) (eo : ope
   -- Then the kinds give it, if they are wrong.
   pub number-kinds : (kinds ≡ 0 → ⊥) → kinds ≡ tableNo limit t
   unfolding tableNo
-  number-kinds nz = rw (← eh) (later _ _ opening _ eo oz (first _ _ kinds ek nz))
+  number-kinds nz = rw (← eh) (or-later _ _ opening _ eo oz (or-first _ _ kinds ek nz))
 
   module _ (states number : ℕ) (kz : kinds ≡ 0) (es : states ≡ getD t (statesAt (h .kinds)) 0)
       (en : number ≡ fieldNo t (statesAt (h .kinds)) (leb 1 states && leb states limit) 4) where
     -- Then the number of states, if it is wrong; and else what stands behind it.
     pub number-states : (number ≡ 0 → ⊥) → number ≡ tableNo limit t
     unfolding tableNo
-    number-states nz = rw (← eh, ← es) (later _ _ opening _ eo oz (later _ _ kinds _ ek kz (first _ _ number en nz)))
+    number-states nz = rw (← eh, ← es) (or-later _ _ opening _ eo oz (or-later _ _ kinds _ ek kz (or-first _ _ number en nz)))
 
     pub number-rows : (r : ℕ) → number ≡ 0
         → r ≡ orElse (transitionsNo h states t (rowsAt (h .kinds)) (h .kinds * states)) (leftOverNo t (rowAt (h .kinds) states))
         → r ≡ tableNo limit t
     unfolding tableNo
-    number-rows r z er = rw (← eh, ← es) (later _ _ opening _ eo oz (later _ _ kinds _ ek kz (later _ _ number _ en z er)))
+    number-rows r z er = rw (← eh, ← es) (or-later _ _ opening _ eo oz (or-later _ _ kinds _ ek kz (or-later _ _ number _ en z er)))
 
 -- A number of states that is right is there, and the rows begin behind it.
 pub rows-there : (t : List ℕ) (h : Head) (right : Bool) (number : ℕ)

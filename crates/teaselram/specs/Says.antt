@@ -3,7 +3,6 @@ use Prim.Native.Nat.{ℕ, zero, suc, _<_, _^_}
 use mathlib.Core.Path.{_≡_}
 use mathlib.Core.List.{List}
 use Rattle.convention.specs.declared.Placing.{Placing}
-use Rattle.convention.specs.declared.Placing.the-variants.{Placed, Unknown, Faulty}
 use Rattle.convention.specs.declared.Building.{Building}
 use Rattle.convention.specs.declared.Judging.{Judging}
 use Rattle.convention.specs.declared.SheetAnswer.{SheetAnswer}

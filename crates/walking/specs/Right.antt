@@ -1,5 +1,5 @@
 -- Document 01, demand 3: a place that is right for its kind.
-use Prim.Native.Nat.{ℕ, _*_, _%_, _≤_}
+use Prim.Native.Nat.{_*_, _%_, _≤_}
 use mathlib.Core.Path.{_≡_}
 use Rattle.convention.specs.declared.Head.{Head}
 use Rattle.convention.specs.declared.TableKind.{TableKind}
