@@ -20,7 +20,7 @@ use Rattle.convention.specs.Built.{builtStates, builtTable, buildNo, buildAnswe
 use Rattle.convention.specs.Promised.{SheetRead}
 use Rattle.convention.proofs.Numbers.{read-number, refused-number, refused-some, or-here}
 use Rattle.convention.proofs.Sheets.{sheet-given}
-use Rattle.building.specs.declared.Met.{Met}
+use Rattle.building.specs.declared.keys.Met.{Met}
 use Rattle.building.specs.Holding.{Holds}
 use Rattle.building.specs.Writing.{TableAsks, BuildingIs}
 use Rattle.building.proofs.Readable.{built-length}
@@ -35,17 +35,17 @@ number-leaves zero table out h = absurd (omega arith)
 number-leaves (suc number) table out h = refl
 
 -- A sheet that was read, whose states were explored.
-module _ (sheet : Sheet) (met : Met) (before : List ℕ) (holds : Holds sheet met (builtStates stateLimit sheet)) where
+module _ (sheet : Sheet) (states : List ℕ) (met : Met) (before : List ℕ) (holds : Holds sheet states met (builtStates stateLimit sheet)) where
   -- 11.
   pub too-many : met .over ≡ true → BuildingIs sheet before (Building.Refused 11) before
   too-many o = record { answers = rw (lt-leb _ _ (holds .more o)); memory = rw (lt-leb _ _ (holds .more o)) }
 
   module _ (o : met .over ≡ false) (len : ℕ) (e : len ≡ rowAt (sheet .head .kinds) (met .count)) where
     few : length (builtStates stateLimit sheet) ≤ stateLimit
-    few = omega (arith, holds .room, holds .all o .count)
+    few = omega (arith, holds .room .few, holds .all o .many)
 
     whole : len ≡ length (builtTable stateLimit sheet)
-    whole = e ∙ rw (holds .all o .count) (sym (built-length sheet (builtStates stateLimit sheet)))
+    whole = e ∙ rw (holds .all o .many) (sym (built-length sheet (builtStates stateLimit sheet)))
 
     -- 12.
     pub too-short : length before < len → BuildingIs sheet before (Building.Refused 12) before
@@ -55,14 +55,14 @@ module _ (sheet : Sheet) (met : Met) (before : List ℕ) (holds : Holds sheet me
 
     -- The table.
     module _ (h : len ≤ length before) where
-      pub table-asks : SheetRead sheet → TableAsks sheet met before
+      pub table-asks : SheetRead sheet → TableAsks sheet states (met .count) before
       table-asks read = record { kept = record { read = read; room = holds .room; keeps = holds .all o }; there = rw (← e) h }
 
       pub table-built : (after : List ℕ) → after ≡ written before 0 (builtTable stateLimit sheet) → BuildingIs sheet before (Built (met .count) len) after
       table-built after ea =
           let room : length (builtTable stateLimit sheet) ≤ length before = rw (← whole) h in
           record {
-            answers = rw (le-leb _ _ few, le-leb _ _ room, holds .all o .count, whole);
+            answers = rw (le-leb _ _ few, le-leb _ _ room, holds .all o .many, whole);
             memory = rw (le-leb _ _ few, le-leb _ _ room) (ea ∙ rw zero-add);
           }
 

@@ -7,6 +7,8 @@ use native.Mathlib.Omega.{arith}
 use mir.Syntax.{w8}
 use mir.Val.{Fits}
 use lib.Dec.{eqb}
+use Rattle.convention.specs.declared.Head.{Head}
+use Rattle.convention.specs.declared.SheetKind.{SheetKind}
 use Rattle.convention.specs.declared.Sheet.{Sheet}
 use Rattle.convention.specs.declared.Placement.{Placement}
 use Rattle.convention.specs.declared.Allocation.{Allocation}
@@ -14,10 +16,11 @@ use Rattle.convention.specs.declared.ByRules.{ByRules}
 use Rattle.convention.specs.Sheets.{sheetKind}
 use Rattle.convention.specs.Rules.{placeFault}
 use Rattle.convention.specs.Built.{allocation, fromAllocation}
-use Rattle.convention.specs.Promised.{SheetRead}
+use Rattle.convention.specs.Promised.{HeadRead, SheetRead}
 use Rattle.convention.proofs.Offsets.{modulus-pos}
 use Rattle.placing.specs.Asked.{StepAsks, StepIs}
-use Rattle.building.specs.Holding.{KindAsks, LeadIs}
+use Rattle.building.specs.Keys.{KeyIs}
+use Rattle.building.specs.Holding.{LeadAsks, LeadIs}
 
 -- A remainder by a byte is a byte.
 pub residue-fits : (x m : ℕ) → 0 < m → Fits w8 m → Fits w8 (x % m)
@@ -28,15 +31,24 @@ pub known-place : (place known : Placement) (b : Bool) → place ≡ known → b
 known-place place known b e h = rw e h
 
 -- A modulus is not 0.
-pub modulus-some : (sheet : Sheet) → SheetRead sheet → 0 < sheet .head .modulus
-modulus-some sheet read = modulus-pos (sheet .head .modulus) (read .head .modulus)
+pub modulus-some : (h : Head) → HeadRead h → 0 < h .modulus
+modulus-some h read = modulus-pos (h .modulus) (read .modulus)
 
-module _ (sheet : Sheet) (a : Allocation) (k : ℕ) where
+-- Kind k of a sheet that was read.
+pub lead-asks : (sheet : Sheet) (k : ℕ) → SheetRead sheet → k < sheet .head .kinds → LeadAsks (sheet .head) (sheetKind sheet k)
+lead-asks sheet k read h = record { head = read .head; kind = read .kind k h }
+
+-- Where a head's kind leads, of kind k of a sheet.
+pub lead-of : (sheet : Sheet) (k : ℕ) (h : Head) (kind : SheetKind) (a : Allocation) (place : Placement) (next : ℕ) → h ≡ sheet .head
+    → kind ≡ sheetKind sheet k → LeadIs h kind a place next → LeadIs (sheet .head) (sheetKind sheet k) a place next
+lead-of sheet k h kind a place next eh ek lead = rw (eh, ek) at lead
+
+module _ (h : Head) (kind : SheetKind) (a : Allocation) where
   -- A remainder is a byte, and leaves room on the stack.
-  pub step-asks : KindAsks sheet k → a .remainder < 256 → StepAsks (sheet .head) (sheetKind sheet k) (fromAllocation a)
-  step-asks asks h = record { head = asks .read .head; kind = asks .read .kind k (asks .known); room = omega arith }
+  pub step-asks : LeadAsks h kind → a .remainder < 256 → StepAsks h kind (fromAllocation a)
+  step-asks asks b = record { head = asks .head; kind = asks .kind; room = omega arith }
 
-  -- Behind the step stands the next allocation state.
-  pub led : (place : Placement) (behind : ByRules) (next : Allocation) → StepIs (sheet .head) (sheetKind sheet k) (fromAllocation a) place behind
-      → next ≡ allocation (sheet .head .modulus) behind → LeadIs sheet a k place next
-  led place behind next step e = record { placed = step .placed; behind = rw (← step .reached) e }
+  -- The key is that of the allocation state behind the step.
+  pub led : (place : Placement) (behind : ByRules) (next : Allocation) (key : ℕ) → StepIs h kind (fromAllocation a) place behind
+      → next ≡ allocation (h .modulus) behind → KeyIs key next → LeadIs h kind a place key
+  led place behind next key step e is = record { placed = step .placed; behind = rw (← step .reached, ← e) is }

@@ -8,7 +8,7 @@ pub mod Calls
 pub mod Clean
 pub mod Reached
 pub mod Unreached
-pub mod Comparing
+pub mod Keyed
 pub mod Leading
 pub mod Meeting
 pub mod Writing

@@ -3,29 +3,32 @@ use Prim.Native.Nat.{ℕ, zero, suc, _+_, _≤_, _<_}
 use mathlib.Core.Path.{_≡_, refl, sym, ap, _∙_}
 use mathlib.Core.Logic.{inl, inr}
 use mathlib.Core.Bool.{Bool, true, false, true≢false}
-use mathlib.Core.List.{List, [], _∷_, _++_, map}
+use mathlib.Core.List.{List, [], _∷_, _++_}
 use native.Mathlib.Nat.{eq-or-lt-of-le, le-of-suc-le-suc}
 use native.Mathlib.Numerals.{add-one}
 use native.Mathlib.Omega.{arith}
 use lib.Dec.{eqb}
-use lib.ListN.{length, getD, set, length-append, length-map, List·getD-append}
+use lib.ListN.{length, getD, set, length-append, length-set, List·getD-append}
 use lib.Seq.{getD-append-seam, getD-set-same, getD-set-other}
 use borrow.Author.Tests.{lt-ltb, le-ltb}
+use Rattle.convention.specs.declared.Head.{Head}
+use Rattle.convention.specs.declared.SheetKind.{SheetKind}
 use Rattle.convention.specs.declared.Sheet.{Sheet}
 use Rattle.convention.specs.declared.Placement.{Placement}
 use Rattle.convention.specs.declared.Allocation.{Allocation}
 use Rattle.convention.specs.Numbers.{stateLimit}
+use Rattle.convention.specs.Sheets.{sheetKind}
 use Rattle.convention.specs.Rules.{placeFault}
 use Rattle.convention.specs.Explored.{Automaton, Entry, firstEntry, entry, number, meet, metFrom, through, met as metBefore}
-use Rattle.convention.specs.Built.{allocations, builtStates}
+use Rattle.convention.specs.Built.{sameAllocation, allocations, builtStates}
 use Rattle.convention.proofs.Runs.{either}
 use Rattle.convention.proofs.Exploring.{meet-grows, met-grows, whole}
-use Rattle.building.specs.declared.Met.{Met}
-use Rattle.building.specs.Holding.{stateAt, firstMet, Finds, Keeps, Holds, Meets, LeadIs, Passes, VisitAsks, Visiting, Exploring}
-
--- As many are kept as stand for them in memory: how the room for the states is known to be whole.
-pub length-mapped : (A B : Type 0) (f : A → B) (l : List A) (n : ℕ) → length (map f l) ≡ n → length l ≡ n
-length-mapped A B f l n e = sym (length-map l f) ∙ e
+use Rattle.building.specs.declared.keys.Met.{Met}
+use Rattle.building.specs.Keys.{keyOf, stateOf, KeyIs}
+use Rattle.building.specs.Holding.{Room, Finds, Keeps, Holds, Meets, LeadIs, Passes, VisitAsks, Visiting, ExploreAsks, Exploring}
+use Rattle.building.proofs.Keyed.{first-key}
+use Rattle.building.proofs.Allocations.{allocations-decide}
+use Rattle.building.proofs.Leading.{lead-of}
 
 -- The place of the first entry that is the same is the number.
 number-first : (X : Automaton) (l : List (Entry X)) (s : X .Node) (r : ℕ) → r ≤ length l
@@ -40,11 +43,30 @@ module _ (sheet : Sheet) where
   abbrev X : Automaton
   X = allocations sheet
 
-  -- What is found among the states kept is the number.
-  pub found-number : (met : Met) (l : List (Entry X)) (a : Allocation) (at : ℕ) → Keeps sheet met l → Finds met a at → at ≡ number X l a
-  found-number met l a at keeps finds = number-first X l a at (omega (arith, keeps .count))
-      (λ j o. rw (← keeps .states j (omega (arith, keeps .count))) (finds .passed .others j o))
-      (λ o. rw (← keeps .states at o) (finds .there (omega (arith, keeps .count))))
+  -- Two states are the same exactly where their keys are.
+  module _ (x y : ℕ) (a b : Allocation) (ka : KeyIs x a) (kb : KeyIs y b) where
+    same-key : x ≡ y → sameAllocation a b ≡ true
+    same-key e =
+        let eq : a ≡ b = sym (ka .state) ∙ ap stateOf e ∙ kb .state in
+        rw eq (allocations-decide sheet .same-refl b)
+
+    other-key : (x ≡ y → ⊥) → sameAllocation a b ≡ false
+    other-key other = elim (either (sameAllocation a b)) [
+      | inl t ↦ absurd (other (ka .number ∙ ap keyOf (allocations-decide sheet .same-eq a b t) ∙ sym (kb .number)))
+      | inr f ↦ f
+    ]
+
+  -- Where the key is found among those kept is the state's number.
+  pub found-number : (states : List ℕ) (count : ℕ) (l : List (Entry X)) (key : ℕ) (a : Allocation) (at : ℕ) → Keeps sheet states count l → KeyIs key a
+      → Finds states count key at → at ≡ number X l a
+  found-number states count l key a at keeps is finds = number-first X l a at (omega (arith, keeps .many, finds .passed .within))
+      (λ j o. other-key _ key _ a (keeps .keys j (omega (arith, keeps .many, finds .passed .within))) is (finds .passed .others j o))
+      (λ o. same-key _ key _ a (keeps .keys at o) is (finds .there (omega (arith, keeps .many))))
+
+  -- The state that key i gives back is entry i's.
+  pub kept-node : (states : List ℕ) (count : ℕ) (l : List (Entry X)) (i : ℕ) (a : Allocation) → Keeps sheet states count l → i < count
+      → a ≡ stateOf (getD states i 0) → entry X l i .node ≡ a
+  kept-node states count l i a keeps h e = sym (keeps .keys i (omega (arith, keeps .many)) .state) ∙ sym e
 
   -- A node that was met is not appended; a new one is.
   meet-known : (l : List (Entry X)) (e : Entry X) → number X l (e .node) < length l → meet X l e ≡ l
@@ -59,116 +81,130 @@ module _ (sheet : Sheet) where
   still-more : (l : List (Entry X)) (e : Entry X) → stateLimit < length l → stateLimit < length (meet X l e)
   still-more l e h = omega (arith, meet-grows X l e .longer)
 
--- A state met.
-module _ (met : Met) (a : Allocation) (at : ℕ) (finds : Finds met a at) where
+-- A state met, by its key.
+module _ (states : List ℕ) (met : Met) (key at : ℕ) (room : Room states (met .count)) (finds : Finds states (met .count) key at) where
   -- It was kept already.
-  pub meets-known : at < met .count → Meets met a met
+  pub meets-known : at < met .count → Meets states met key met states
   meets-known h = record {
-    meets = λ sheet l e holds ea.
+    meets = λ sheet l e holds is.
         let known : met .over ≡ false → meet (allocations sheet) l e ≡ l =
-        λ o. let keeps = holds .all o in meet-known sheet l e (rw (ea, ← found-number sheet met l a at keeps finds) (omega (arith, keeps .count))) in
-        record { room = holds .room; all = λ o. rw (known o) (holds .all o); more = λ o. still-more sheet l e (holds .more o) };
+        λ o. let keeps = holds .all o in
+        meet-known sheet l e (rw (← found-number sheet states _ l key _ at keeps is finds) (omega (arith, keeps .many))) in
+        record { room = room; all = λ o. rw (known o) (holds .all o); more = λ o. still-more sheet l e (holds .more o) };
   }
 
   -- It is new: whatever entries were kept, it is appended.
-  module _ (h : met .count ≤ at) (sheet : Sheet) (l : List (Entry (allocations sheet))) (e : Entry (allocations sheet)) (ea : e .node ≡ a) where
-    appended : Keeps sheet met l → meet (allocations sheet) l e ≡ l ++ e ∷ []
-    appended keeps = meet-new sheet l e (rw (ea, ← found-number sheet met l a at keeps finds) (omega (arith, keeps .count)))
+  module _ (h : met .count ≤ at) (sheet : Sheet) (l : List (Entry (allocations sheet))) (e : Entry (allocations sheet)) (is : KeyIs key (e .node))
+      (keeps : Keeps sheet states (met .count) l) where
+    appended : meet (allocations sheet) l e ≡ l ++ e ∷ []
+    appended = meet-new sheet l e (rw (← found-number sheet states _ l key _ at keeps is finds) (omega (arith, keeps .many)))
 
-    count-more : Keeps sheet met l → length (meet (allocations sheet) l e) ≡ length l + 1
-    count-more keeps = rw (appended keeps) (length-append l (e ∷ []))
+    one-more : length (meet (allocations sheet) l e) ≡ length l + 1
+    one-more = rw appended (length-append l (e ∷ []))
 
   -- There is no room for it.
-  pub meets-over : met .count ≤ at → met .count ≡ stateLimit → Meets met a (record { states = met .states; count = met .count; over = true })
+  pub meets-over : met .count ≤ at → at ≡ stateLimit → Meets states met key (record { count = at; over = true }) states
   meets-over h full = record {
-    meets = λ sheet l e holds ea. record {
-      room = holds .room;
+    meets = λ sheet l e holds is. record {
+      room = record { few = omega arith; long = room .long };
       all = λ o. absurd (true≢false o);
       more = λ _. elim (either (met .over)) [
         | inl o ↦ still-more sheet l e (holds .more o)
-        | inr o ↦ let keeps = holds .all o in omega (arith, count-more h sheet l e ea keeps, keeps .count)
+        | inr o ↦ let keeps = holds .all o in omega (arith, one-more h sheet l e is keeps, keeps .many, finds .passed .within)
       ];
     };
   }
 
   -- It is kept behind the others.
-  pub meets-new : met .count ≤ at → (met .count ≡ stateLimit → ⊥) → met .count ≤ stateLimit → length (met .states) ≡ stateLimit
-      → Meets met a (record { states = set (met .states) at a; count = at + 1; over = met .over })
-  meets-new h some room long = record {
-    meets = λ sheet l e holds ea. record {
-      room = omega (arith, finds .passed .within);
+  pub meets-new : met .count ≤ at → (at ≡ stateLimit → ⊥) → Meets states met key (record { count = at + 1; over = met .over }) (set states at key)
+  meets-new h some = record {
+    meets = λ sheet l e holds is. record {
+      room = record { few = omega (arith, room .few, finds .passed .within); long = length-set states at key ∙ room .long };
       all = λ o. let keeps = holds .all o in record {
-        count = rw (count-more h sheet l e ea keeps) (omega (arith, finds .passed .within, keeps .count));
-        states = rw (appended h sheet l e ea keeps) (stored sheet l e keeps ea);
+        many = rw (one-more h sheet l e is keeps) (omega (arith, finds .passed .within, keeps .many));
+        keys = rw (appended h sheet l e is keeps) (stored sheet l e keeps is);
       };
       more = λ o. still-more sheet l e (holds .more o);
     };
   }
     where
-      stored : (sheet : Sheet) (l : List (Entry (allocations sheet))) (e : Entry (allocations sheet)) → Keeps sheet met l → e .node ≡ a
-          → (i : ℕ) → i < length (l ++ e ∷ [])
-          → getD (set (met .states) at a) i (record { unavailable = []; remainder = 0 }) ≡ entry (allocations sheet) (l ++ e ∷ []) i .node
-      stored sheet l e keeps ea i o = elim (eq-or-lt-of-le (le-of-suc-le-suc (rw (length-append, add-one) at o))) [
+      stored : (sheet : Sheet) (l : List (Entry (allocations sheet))) (e : Entry (allocations sheet)) → Keeps sheet states (met .count) l
+          → KeyIs key (e .node) → (i : ℕ) → i < length (l ++ e ∷ [])
+          → KeyIs (getD (set states at key) i 0) (entry (allocations sheet) (l ++ e ∷ []) i .node)
+      stored sheet l e keeps is i o = elim (eq-or-lt-of-le (le-of-suc-le-suc (rw (length-append, add-one) at o))) [
         | inl q ↦
-            let last : i ≡ at = omega (arith, keeps .count, finds .passed .within) in
-            rw (q, getD-append-seam l e [] (firstEntry (allocations sheet)), ← q, last, ea) (getD-set-same (met .states) at a _ (omega arith))
+            let last : i ≡ at = omega (arith, keeps .many, finds .passed .within) in
+            let inside : at < length states = omega (arith, room .few, room .long, finds .passed .within) in
+            rw (q, getD-append-seam l e [] (firstEntry (allocations sheet)), ← q, last, getD-set-same states at key 0 inside) is
         | inr q ↦
-            rw (List·getD-append l (e ∷ []) (firstEntry (allocations sheet)) i q, getD-set-other (met .states) at i a _ (omega (arith, keeps .count, finds .passed .within)))
-            (keeps .states i q)
+            rw (List·getD-append l (e ∷ []) (firstEntry (allocations sheet)) i q, getD-set-other states at i key 0 (omega (arith, keeps .many, finds .passed .within)))
+            (keeps .keys i q)
       ]
 
 -- One kind gone through at a state: it leads on, and what it leads to is met; or it leads nowhere.
-module _ (sheet : Sheet) (met : Met) (a : Allocation) (k : ℕ) (place : Placement) (next : Allocation) (lead : LeadIs sheet a k place next)
-    (placed : Bool) (e : placed ≡ eqb (placeFault place) 0) where
-  goes : placed ≡ allocations sheet .goes a k
-  goes = rw (← lead .placed) e
+module _ (h : Head) (kind : SheetKind) (a : Allocation) (place : Placement) (next : ℕ) (lead : LeadIs h kind a place next)
+    (placed : Bool) (e : placed ≡ eqb (placeFault place) 0) (states : List ℕ) (met : Met) where
+  -- Of kind k of a sheet.
+  module _ (sheet : Sheet) (k : ℕ) (eh : h ≡ sheet .head) (ek : kind ≡ sheetKind sheet k) where
+    lead-at : LeadIs (sheet .head) (sheetKind sheet k) a place next
+    lead-at = lead-of sheet k h kind a place next eh ek lead
 
-  pub passes-on : (r : Met) → placed ≡ true → Meets met next r → Passes sheet met a k r
+    goes : placed ≡ allocations sheet .goes a k
+    goes = rw (← lead-at .placed) e
+
+  pub passes-on : (r : Met) (after : List ℕ) → placed ≡ true → Meets states met next r after → Passes h kind a states met r after
   unfolding metFrom
-  passes-on r t meets = record {
-    passes = λ l i holds. rw (add-one, metFrom, ← goes, t) (meets .meets sheet _ _ holds (sym (lead .behind)));
+  passes-on r after t meets = record {
+    passes = λ sheet k eh ek l i holds.
+        rw (add-one, metFrom, ← goes sheet k eh ek, t) (meets .meets sheet _ _ holds (lead-at sheet k eh ek .behind));
   }
 
-  pub passes-nowhere : placed ≡ false → Passes sheet met a k met
+  pub passes-nowhere : placed ≡ false → Passes h kind a states met met states
   unfolding metFrom
-  passes-nowhere f = record { passes = λ l i holds. rw (add-one, metFrom, ← goes, f) holds }
+  passes-nowhere f = record { passes = λ sheet k eh ek l i holds. rw (add-one, metFrom, ← goes sheet k eh ek, f) holds }
 
 -- State i gone through, before kind k of it.
-module _ (sheet : Sheet) (i k : ℕ) where
-  pub visiting-begin : (met : Met) (a : Allocation) → VisitAsks sheet met i → Visiting sheet a i 0 met
+module _ (sheet : Sheet) (i k : ℕ) (a : Allocation) (states : List ℕ) (met : Met) where
+  pub visiting-begin : VisitAsks sheet states met i → Visiting sheet a i 0 states met
   unfolding metFrom
-  visiting-begin met a asks = record { within = omega arith; holds = asks .holds }
+  visiting-begin asks = record { within = omega arith; holds = asks .holds }
 
-  module _ (a : Allocation) (met : Met) (visiting : Visiting sheet a i k met) where
-    pub visiting-on : (r : Met) → k < sheet .head .kinds → Passes sheet met a k r → Visiting sheet a i (k + 1) r
-    visiting-on r h passes = record { within = omega arith; holds = passes .passes _ i (visiting .holds) }
+  pub visiting-on : (r : Met) (after : List ℕ) → Visiting sheet a i k states met → k < sheet .head .kinds
+      → Passes (sheet .head) (sheetKind sheet k) a states met r after → Visiting sheet a i (k + 1) after r
+  visiting-on r after visiting h passes = record { within = omega arith; holds = passes .passes sheet k refl refl _ i (visiting .holds) }
 
   -- Behind the last kind.
-  pub visiting-end : (met more : Met) → VisitAsks sheet met i → Visiting sheet (stateAt met i) i k more → sheet .head .kinds ≤ k
-      → Holds sheet more (metBefore (allocations sheet) (i + 1))
+  pub visiting-end : (more : Met) (after : List ℕ) → VisitAsks sheet states met i → a ≡ stateOf (getD states i 0) → Visiting sheet a i k after more
+      → sheet .head .kinds ≤ k → Holds sheet after more (metBefore (allocations sheet) (i + 1))
   unfolding metBefore through
-  visiting-end met more asks visiting h =
+  visiting-end more after asks from visiting h =
       let keeps = asks .holds .all (asks .whole) in
-      let inside : i < length (metBefore (allocations sheet) i) = omega (arith, asks .inside, keeps .count) in
+      let inside : i < length (metBefore (allocations sheet) i) = omega (arith, asks .inside, keeps .many) in
       let last : k ≡ sheet .head .kinds = omega (arith, visiting .within) in
-      rw (add-one, lt-ltb _ _ inside, through, ← keeps .states i inside) (rw last at (visiting .holds))
+      let node = kept-node sheet states _ _ i a keeps (asks .inside) from in
+      rw (add-one, lt-ltb _ _ inside, through, node) (rw last at (visiting .holds))
 
 -- The exploration, before state i is gone through.
 module _ (sheet : Sheet) where
-  pub exploring-begin : (met : Met) → met ≡ firstMet → Exploring sheet 0 met
+  -- The first state alone was met.
+  pub exploring-begin : (states : List ℕ) → ExploreAsks sheet states → Exploring sheet 0 (set states 0 0) (record { count = 1; over = false })
   unfolding metBefore
-  exploring-begin met e = rw e (record {
+  exploring-begin states asks = record {
     within = omega arith;
-    holds = record { room = omega arith; all = λ _. record { count = refl; states = first }; more = λ o. absurd (true≢false (sym o)) };
-  })
+    holds = record {
+      room = record { few = omega arith; long = length-set states 0 0 ∙ asks .long };
+      all = λ _. record { many = refl; keys = first };
+      more = λ o. absurd (true≢false (sym o));
+    };
+  }
     where
-      first : (j : ℕ) → j < 1 → stateAt firstMet j ≡ entry (allocations sheet) (firstEntry (allocations sheet) ∷ []) j .node
-      first zero h = refl
+      first : (j : ℕ) → j < 1 → KeyIs (getD (set states 0 0) j 0) (entry (allocations sheet) (firstEntry (allocations sheet) ∷ []) j .node)
+      first zero h = rw (getD-set-same states 0 0 0 (omega (arith, asks .long))) first-key
       first (suc j) h = absurd (omega arith)
 
-  module _ (i : ℕ) (met : Met) (exploring : Exploring sheet i met) where
+  module _ (i : ℕ) (states : List ℕ) (met : Met) (exploring : Exploring sheet i states met) where
     -- Too many were met: going on meets no fewer.
-    pub exploring-over : met .over ≡ true → Holds sheet met (builtStates stateLimit sheet)
+    pub exploring-over : met .over ≡ true → Holds sheet states met (builtStates stateLimit sheet)
     exploring-over o = record {
       room = exploring .holds .room;
       all = λ f. absurd (true≢false (sym o ∙ f));
@@ -176,10 +212,10 @@ module _ (sheet : Sheet) where
     }
 
     -- All that were met were gone through: going on meets nothing more.
-    pub exploring-end : met .count ≤ i → Holds sheet met (builtStates stateLimit sheet)
+    pub exploring-end : met .count ≤ i → Holds sheet states met (builtStates stateLimit sheet)
     exploring-end h = elim (either (met .over)) [
       | inl o ↦ exploring-over o
       | inr o ↦
-          let done : length (metBefore (allocations sheet) i) ≤ i = omega (arith, exploring .holds .all o .count) in
+          let done : length (metBefore (allocations sheet) i) ≤ i = omega (arith, exploring .holds .all o .many) in
           rw (whole (allocations sheet) i stateLimit done (exploring .within)) (exploring .holds)
     ]

@@ -7,9 +7,10 @@ use native.Mathlib.Nat.{mul-le-mul, mul-le-mul-left}
 use native.Mathlib.Omega.{arith}
 use mir.Syntax.{w8, w64}
 use mir.Val.{Fits}
-use lib.ListN.{length, set, length-append, length-set}
+use lib.ListN.{length, getD, set, length-append, length-set}
 use lib.Seq.{append-snoc}
 use Rattle.convention.specs.declared.Head.{Head}
+use Rattle.convention.specs.declared.SheetKind.{SheetKind}
 use Rattle.convention.specs.declared.Sheet.{Sheet}
 use Rattle.convention.specs.declared.Placement.{Placement}
 use Rattle.convention.specs.declared.Placement.the-variants.{Registers, Stack, Nowhere}
@@ -23,11 +24,12 @@ use Rattle.convention.specs.Explored.{Entry}
 use Rattle.convention.specs.Rules.{byRules}
 use Rattle.convention.specs.Built.{fromAllocation, allocations, transitionBytes, builtTransition, builtRow, builtKind, builtBody, tableOfStates, builtStates, builtTable}
 use Rattle.convention.proofs.Bytes.{length-written, written-nothing, written-sets, written-one, written-more, length-blocks, written-block}
-use Rattle.building.specs.declared.Met.{Met}
-use Rattle.building.specs.Holding.{stateAt, Finds, LeadIs}
-use Rattle.building.specs.Writing.{StatesKept, CellAsks, TableAsks, RowAsks, KindsAsk, openingBytes, FrontAsks, frontBytes, BlocksLeft}
+use Rattle.building.specs.Keys.{stateOf}
+use Rattle.building.specs.Holding.{Finds, LeadIs}
+use Rattle.building.specs.Writing.{StatesKept, CellAsks, CellIs, TableAsks, RowAsks, KindsAsk, openingBytes, FrontAsks, frontBytes, BlocksLeft}
 use Rattle.building.proofs.Readable.{built-length}
-use Rattle.building.proofs.Meeting.{found-number}
+use Rattle.building.proofs.Leading.{lead-asks, lead-of}
+use Rattle.building.proofs.Meeting.{found-number, kept-node}
 
 -- Where a row starts can be counted.
 cells-most : (m n : ℕ) → Fits w8 m → n ≤ 200 → 4 * m * n ≤ 4 * 255 * 200
@@ -62,13 +64,15 @@ pub known-written : (place known : Placement) (modulus next : ℕ) (bytes : List
 known-written place known modulus next bytes d at now e h b = rw (e, ← b) h
 
 -- A transition is that of the place to which the kind leads and of the number that was found.
-pub cell-written : (sheet : Sheet) (met : Met) (a : Allocation) (k : ℕ) (place : Placement) (next : Allocation) (number : ℕ) (d : List ℕ) (at : ℕ) (now : List ℕ)
-    → StatesKept sheet met → LeadIs sheet a k place next → Finds met next number
-    → now ≡ written d at (transitionBytes (sheet .head .modulus) place number)
-    → now ≡ written d at (builtTransition sheet (builtStates stateLimit sheet) a k)
+pub cell-written : (h : Head) (kind : SheetKind) (a : Allocation) (states : List ℕ) (count : ℕ) (place : Placement) (next number : ℕ)
+    (d : List ℕ) (at : ℕ) (now : List ℕ) → LeadIs h kind a place next → Finds states count next number → now ≡ written d at (transitionBytes (h .modulus) place number)
+    → CellIs h kind a states count d at now
 unfolding builtTransition
-cell-written sheet met a k place next number d at now kept lead finds e =
-    rw (← lead .placed, ← lead .behind, ← found-number sheet met _ next number (kept .keeps) finds) e
+cell-written h kind a states count place next number d at now lead finds e = record {
+  cell = λ sheet k eh ek keeps.
+      let here = lead-of sheet k h kind a place next eh ek lead in
+      rw (← here .placed, ← found-number sheet states count _ next _ number keeps (here .behind) finds, ← eh) e;
+}
 
 -- Blocks of w bytes, one behind the other from byte `at` on: none yet, one more, all.
 module _ (f : ℕ → List ℕ) (at all : ℕ) (before : List ℕ) where
@@ -120,39 +124,44 @@ module _ (sheet : Sheet) where
   row-wide i = length-blocks _ transitionLength m (λ k h. cell-wide _ k)
 
   -- A row of the table lies within it.
-  row-there : (met : Met) (i : ℕ) (out : List ℕ) → RowAsks sheet met i out → rowAt m i + rowLength m ≤ length out
-  row-there met i out asks = omega (arith, asks .asks .there, mul-le-mul-left (rowLength m) (asks .inside))
+  row-there : (states : List ℕ) (count i : ℕ) (out : List ℕ) → RowAsks sheet states count i out → rowAt m i + rowLength m ≤ length out
+  row-there states count i out asks = omega (arith, asks .asks .there, mul-le-mul-left (rowLength m) (asks .inside))
 
   -- The cells of a row.
-  module _ (met : Met) (i at k : ℕ) (before out : List ℕ) (asks : RowAsks sheet met i before) (e : at ≡ rowAt m i) where
+  module _ (states : List ℕ) (count i at k : ℕ) (before out : List ℕ) (asks : RowAsks sheet states count i before) (e : at ≡ rowAt m i) (a : Allocation)
+      (left : BlocksLeft (builtTransition sheet l a) at k m before out) where
     -- One more.
-    module _ (a : Allocation) (h : k < m) (left : BlocksLeft (builtTransition sheet l a) at k m before out) where
-      pub cell-asks : CellAsks sheet met k out (at + 4 * k)
-      cell-asks = record { kept = asks .asks .kept; known = h; there = omega (arith, row-there met i before asks, left .long) }
+    module _ (h : k < m) where
+      pub cell-asks : CellAsks (sheet .head) (sheetKind sheet k) states count out (at + 4 * k)
+      cell-asks =
+          let kept = asks .asks .kept in
+          record { lead = lead-asks sheet k (kept .read) h; room = kept .room; there = omega (arith, row-there states count i before asks, left .long) }
 
-      pub cell-on : (after : List ℕ) → after ≡ written out (at + 4 * k) (builtTransition sheet l a k)
+      pub cell-on : (after : List ℕ) → CellIs (sheet .head) (sheetKind sheet k) a states count out (at + 4 * k) after
           → BlocksLeft (builtTransition sheet l a) at (k + 1) m before after
-      cell-on after ea =
-          blocks-on (builtTransition sheet l a) at m before transitionLength k out after (cell-wide a) left h (omega (arith, row-there met i before asks)) ea
+      cell-on after is =
+          blocks-on (builtTransition sheet l a) at m before transitionLength k out after (cell-wide a) left h
+          (omega (arith, row-there states count i before asks)) (is .cell sheet k refl refl (asks .asks .kept .keeps))
 
     -- All of them.
-    pub row-end : BlocksLeft (builtTransition sheet l (stateAt met i)) at k m before out → m ≤ k → out ≡ written before (rowAt m i) (builtRow sheet l i)
+    pub row-end : a ≡ stateOf (getD states i 0) → m ≤ k → out ≡ written before (rowAt m i) (builtRow sheet l i)
     unfolding builtRow
-    row-end left h =
+    row-end from h =
         let keeps = asks .asks .kept .keeps in
-        rw (← keeps .states i (omega (arith, asks .inside, keeps .count)), ← e) (blocks-end _ at m before k out left h)
+        let node = kept-node sheet states count l i a keeps (asks .inside) from in
+        rw (node, ← e) (blocks-end _ at m before k out left h)
 
   -- The rows.
-  module _ (met : Met) (i : ℕ) (before out : List ℕ) (asks : TableAsks sheet met before) (h : i < met .count)
-      (left : BlocksLeft (builtRow sheet l) (rowsAt m) i (met .count) before out) where
-    pub row-asks : RowAsks sheet met i out
+  module _ (states : List ℕ) (count i : ℕ) (before out : List ℕ) (asks : TableAsks sheet states count before) (h : i < count)
+      (left : BlocksLeft (builtRow sheet l) (rowsAt m) i count before out) where
+    pub row-asks : RowAsks sheet states count i out
     row-asks = record { asks = record { kept = asks .kept; there = rw (left .long) (asks .there) }; inside = h }
 
     pub row-on : (after : List ℕ) → after ≡ written out (rowAt m i) (builtRow sheet l i)
-        → BlocksLeft (builtRow sheet l) (rowsAt m) (i + 1) (met .count) before after
+        → BlocksLeft (builtRow sheet l) (rowsAt m) (i + 1) count before after
     row-on after e =
-        blocks-on (builtRow sheet l) (rowsAt m) (met .count) before (rowLength m) i out after row-wide left h
-        (row-there met i before (record { asks = asks; inside = h })) e
+        blocks-on (builtRow sheet l) (rowsAt m) count before (rowLength m) i out after row-wide left h
+        (row-there states count i before (record { asks = asks; inside = h })) e
 
 -- One more part, written right behind those from the first byte on.
 behind : (d bs cs out next : List ℕ) (at : ℕ) → out ≡ written d 0 bs → at ≡ length bs → next ≡ written out at cs → next ≡ written d 0 (bs ++ cs)
@@ -194,17 +203,17 @@ module _ (sheet : Sheet) (states : ℕ) where
           rw there (omega (arith, length-written d 0 (opening ++ kinds) room, asks .there))
 
 -- That and the rows are the table.
-module _ (sheet : Sheet) (met : Met) (kept : StatesKept sheet met) where
+module _ (sheet : Sheet) (states : List ℕ) (count : ℕ) (kept : StatesKept sheet states count) where
   -- As many bytes follow the length as it says.
-  follow : rowAt (m sheet) (met .count) - 2 ≡ length (builtBody sheet (l sheet))
+  follow : rowAt (m sheet) count - 2 ≡ length (builtBody sheet (l sheet))
   unfolding tableOfStates
-  follow = omega (arith, rw (← kept .keeps .count) at (built-length sheet (l sheet)))
+  follow = omega (arith, rw (← kept .keeps .many) at (built-length sheet (l sheet)))
 
-  parts : frontBytes sheet (met .count) ++ blocks (builtRow sheet (l sheet)) (met .count) ≡ builtTable stateLimit sheet
+  parts : frontBytes sheet count ++ blocks (builtRow sheet (l sheet)) count ≡ builtTable stateLimit sheet
   unfolding tableOfStates builtBody
-  parts = rw (append-snoc, follow, kept .keeps .count)
+  parts = rw (append-snoc, follow, kept .keeps .many)
 
-  pub table-written : (d front out : List ℕ) → front ≡ written d 0 (frontBytes sheet (met .count))
-      → out ≡ written front (rowsAt (sheet .head .kinds)) (blocks (builtRow sheet (builtStates stateLimit sheet)) (met .count))
+  pub table-written : (d front out : List ℕ) → front ≡ written d 0 (frontBytes sheet count)
+      → out ≡ written front (rowsAt (sheet .head .kinds)) (blocks (builtRow sheet (builtStates stateLimit sheet)) count)
       → out ≡ written d 0 (builtTable stateLimit sheet)
-  table-written d front out ef er = rw (← parts) (behind d (frontBytes sheet (met .count)) _ front out (rowsAt (m sheet)) ef (front-end sheet (met .count)) er)
+  table-written d front out ef er = rw (← parts) (behind d (frontBytes sheet count) _ front out (rowsAt (m sheet)) ef (front-end sheet count) er)

@@ -1,86 +1,92 @@
--- What the states that the builder keeps have to do with the entries that the exploration meets.
+-- What the states that the builder keeps, by their keys, have to do with the entries that the exploration meets.
 use Prim.Native.Nat.{ℕ, _+_, _≤_, _<_}
 use mathlib.Core.Path.{_≡_}
 use mathlib.Core.Bool.{true, false}
-use mathlib.Core.List.{List, []}
-use lib.ListN.{length, getD, replicate}
+use mathlib.Core.List.{List}
+use lib.ListN.{length, getD}
+use Rattle.convention.specs.declared.Head.{Head}
+use Rattle.convention.specs.declared.SheetKind.{SheetKind}
 use Rattle.convention.specs.declared.Allocation.{Allocation}
 use Rattle.convention.specs.declared.Sheet.{Sheet}
 use Rattle.convention.specs.declared.Placement.{Placement}
 use Rattle.convention.specs.Numbers.{stateLimit}
-use Rattle.convention.specs.Promised.{SheetRead}
-use Rattle.convention.specs.Rules.{byRules}
+use Rattle.convention.specs.Sheets.{sheetKind}
+use Rattle.convention.specs.Promised.{HeadRead, SheetKindRead, SheetRead}
+use Rattle.convention.specs.Rules.{rulesPlace, rulesAfter}
 use Rattle.convention.specs.Explored.{Entry, entry, meet, metFrom, met as metBefore}
-use Rattle.convention.specs.Built.{fromAllocation, sameAllocation, allocations}
-use Rattle.building.specs.Reached.{firstAllocation}
-use Rattle.building.specs.declared.Met.{Met}
+use Rattle.convention.specs.Built.{allocation, fromAllocation, allocations}
+use Rattle.building.specs.Keys.{KeyIs}
+use Rattle.building.specs.declared.keys.Met.{Met}
 
--- State i of those kept. (Past the last an array reads as this record of zeros; no call asks for one.)
-abbrev pub stateAt : Met → ℕ → Allocation
-stateAt met i = getD (met .states) i (record { unavailable = []; remainder = 0 })
+-- So many keys, in the room for as many states as a table may have.
+pub record Room (states : List ℕ) (count : ℕ) : Type 0 where
+  pub few : count ≤ stateLimit
+  pub long : length states ≡ stateLimit
 
--- The first state alone.
-abbrev pub firstMet : Met
-firstMet = record { states = replicate stateLimit firstAllocation; count = 1; over = false }
-
--- None of the first i states kept is the same as a.
-pub record Passed (met : Met) (a : Allocation) (i : ℕ) : Type 0 where
-  pub within : i ≤ met .count
-  pub others : (j : ℕ) → j < i → sameAllocation (stateAt met j) a ≡ false
+-- None of the first i keys is this one.
+pub record Passed (states : List ℕ) (count key i : ℕ) : Type 0 where
+  pub within : i ≤ count
+  pub others : (j : ℕ) → j < i → getD states j 0 ≡ key → ⊥
 
 -- The place of the first that is, or their count where none is.
-pub record Finds (met : Met) (a : Allocation) (r : ℕ) : Type 0 where
-  pub passed : Passed met a r
-  pub there : r < met .count → sameAllocation (stateAt met r) a ≡ true
+pub record Finds (states : List ℕ) (count key r : ℕ) : Type 0 where
+  pub passed : Passed states count key r
+  pub there : r < count → getD states r 0 ≡ key
 
--- The states kept are the entries of l.
-pub record Keeps (sheet : Sheet) (met : Met) (l : List (Entry (allocations sheet))) : Type 0 where
-  pub count : met .count ≡ length l
-  pub states : (i : ℕ) → i < length l → stateAt met i ≡ entry (allocations sheet) l i .node
+-- The keys are those of the entries of l.
+pub record Keeps (sheet : Sheet) (states : List ℕ) (count : ℕ) (l : List (Entry (allocations sheet))) : Type 0 where
+  pub many : count ≡ length l
+  pub keys : (i : ℕ) → i < length l → KeyIs (getD states i 0) (entry (allocations sheet) l i .node)
 
--- The states kept are the entries of l, all of them, or there are more than have room.
-pub record Holds (sheet : Sheet) (met : Met) (l : List (Entry (allocations sheet))) : Type 0 where
-  pub room : met .count ≤ stateLimit
-  pub all : met .over ≡ false → Keeps sheet met l
+-- The keys are those of the entries of l, all of them, or there are more than have room.
+pub record Holds (sheet : Sheet) (states : List ℕ) (met : Met) (l : List (Entry (allocations sheet))) : Type 0 where
+  pub room : Room states (met .count)
+  pub all : met .over ≡ false → Keeps sheet states (met .count) l
   pub more : met .over ≡ true → stateLimit < length l
 
--- A state met: whatever entries were kept, r keeps them and that state, once more.
-pub record Meets (met : Met) (a : Allocation) (r : Met) : Type 0 where
-  pub meets : (sheet : Sheet) (l : List (Entry (allocations sheet))) (e : Entry (allocations sheet)) → Holds sheet met l → e .node ≡ a
-      → Holds sheet r (meet (allocations sheet) l e)
+-- A state met, by its key: whatever entries were kept, r keeps them and that state, once more.
+pub record Meets (states : List ℕ) (met : Met) (key : ℕ) (r : Met) (after : List ℕ) : Type 0 where
+  pub meets : (sheet : Sheet) (l : List (Entry (allocations sheet))) (e : Entry (allocations sheet)) → Holds sheet states met l
+      → KeyIs key (e .node) → Holds sheet after r (meet (allocations sheet) l e)
 
--- A kind of a sheet that was read.
-pub record KindAsks (sheet : Sheet) (k : ℕ) : Type 0 where
-  pub read : SheetRead sheet
-  pub known : k < sheet .head .kinds
+-- A head and a kind that were read.
+pub record LeadAsks (h : Head) (k : SheetKind) : Type 0 where
+  pub head : HeadRead h
+  pub kind : SheetKindRead h k
 
--- Where it leads from an allocation state.
-pub record LeadIs (sheet : Sheet) (a : Allocation) (k : ℕ) (place : Placement) (next : Allocation) : Type 0 where
-  pub placed : place ≡ byRules sheet .place (fromAllocation a) k
-  pub behind : next ≡ allocations sheet .next a k
+-- Where the kind leads from an allocation state: the place, and the key of the state behind it.
+pub record LeadIs (h : Head) (k : SheetKind) (a : Allocation) (place : Placement) (next : ℕ) : Type 0 where
+  pub placed : place ≡ rulesPlace (h .width) k (fromAllocation a)
+  pub behind : KeyIs next (allocation (h .modulus) (rulesAfter (h .width) k (fromAllocation a)))
 
--- One kind gone through at a state: the kinds before it were, and what they led to is kept.
-pub record PassAsks (sheet : Sheet) (met : Met) (k : ℕ) : Type 0 where
-  pub kind : KindAsks sheet k
-  pub room : met .count ≤ stateLimit
+-- One kind gone through at a state.
+pub record PassAsks (h : Head) (k : SheetKind) (states : List ℕ) (count : ℕ) : Type 0 where
+  pub lead : LeadAsks h k
+  pub room : Room states count
 
-pub record Passes (sheet : Sheet) (met : Met) (a : Allocation) (k : ℕ) (r : Met) : Type 0 where
-  pub passes : (l : List (Entry (allocations sheet))) (i : ℕ) → Holds sheet met (metFrom (allocations sheet) l a i k)
-      → Holds sheet r (metFrom (allocations sheet) l a i (k + 1))
+-- Where it is kind k of a sheet, and what the kinds before it led to is kept, so is what it leads to.
+pub record Passes (h : Head) (kind : SheetKind) (a : Allocation) (states : List ℕ) (met r : Met) (after : List ℕ) : Type 0 where
+  pub passes : (sheet : Sheet) (k : ℕ) → h ≡ sheet .head → kind ≡ sheetKind sheet k → (l : List (Entry (allocations sheet))) (i : ℕ)
+      → Holds sheet states met (metFrom (allocations sheet) l a i k) → Holds sheet after r (metFrom (allocations sheet) l a i (k + 1))
 
 -- State i gone through: those before it were, and it was met.
-pub record VisitAsks (sheet : Sheet) (met : Met) (i : ℕ) : Type 0 where
+pub record VisitAsks (sheet : Sheet) (states : List ℕ) (met : Met) (i : ℕ) : Type 0 where
   pub read : SheetRead sheet
-  pub holds : Holds sheet met (metBefore (allocations sheet) i)
+  pub holds : Holds sheet states met (metBefore (allocations sheet) i)
   pub whole : met .over ≡ false
   pub inside : i < met .count
 
 -- Half way through it, before kind k.
-pub record Visiting (sheet : Sheet) (a : Allocation) (i k : ℕ) (met : Met) : Type 0 where
+pub record Visiting (sheet : Sheet) (a : Allocation) (i k : ℕ) (states : List ℕ) (met : Met) : Type 0 where
   pub within : k ≤ sheet .head .kinds
-  pub holds : Holds sheet met (metFrom (allocations sheet) (metBefore (allocations sheet) i) a i k)
+  pub holds : Holds sheet states met (metFrom (allocations sheet) (metBefore (allocations sheet) i) a i k)
+
+-- The states of a sheet that was read, in the room for as many as a table may have.
+pub record ExploreAsks (sheet : Sheet) (states : List ℕ) : Type 0 where
+  pub read : SheetRead sheet
+  pub long : length states ≡ stateLimit
 
 -- Half way through the states, before state i.
-pub record Exploring (sheet : Sheet) (i : ℕ) (met : Met) : Type 0 where
+pub record Exploring (sheet : Sheet) (i : ℕ) (states : List ℕ) (met : Met) : Type 0 where
   pub within : i ≤ stateLimit
-  pub holds : Holds sheet met (metBefore (allocations sheet) i)
+  pub holds : Holds sheet states met (metBefore (allocations sheet) i)

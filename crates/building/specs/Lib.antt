@@ -1,4 +1,5 @@
 pub mod Made
 pub mod Reached
+pub mod Keys
 pub mod Holding
 pub mod Writing

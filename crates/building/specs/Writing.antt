@@ -5,37 +5,44 @@ use mathlib.Core.List.{List, [], _∷_, _++_}
 use lib.Dec.{leb}
 use lib.ListN.{length}
 use Rattle.convention.specs.declared.Head.{Head}
+use Rattle.convention.specs.declared.SheetKind.{SheetKind}
 use Rattle.convention.specs.declared.Sheet.{Sheet}
+use Rattle.convention.specs.declared.Allocation.{Allocation}
 use Rattle.convention.specs.declared.Building.{Building}
 use Rattle.convention.specs.Numbers.{stateLimit, orElse, unless}
 use Rattle.convention.specs.Bytes.{twoBytes, written, blocks}
+use Rattle.convention.specs.Sheets.{sheetKind}
 use Rattle.convention.specs.Tables.{statesAt, transitionLength, rowsAt, rowAt}
 use Rattle.convention.specs.Promised.{SheetRead}
-use Rattle.convention.specs.Built.{builtKind, builtStates, builtTable, statesNumber, buildAnswer, buildWrites}
-use Rattle.building.specs.declared.Met.{Met}
-use Rattle.building.specs.Holding.{Keeps}
+use Rattle.convention.specs.Built.{builtKind, builtTransition, builtStates, builtTable, statesNumber, buildAnswer, buildWrites}
+use Rattle.building.specs.Holding.{Room, Keeps, LeadAsks}
 
--- A sheet that was read, and all its states, no more than have room.
-pub record StatesKept (sheet : Sheet) (met : Met) : Type 0 where
+-- A sheet that was read, and the keys of all its states, no more than have room.
+pub record StatesKept (sheet : Sheet) (states : List ℕ) (count : ℕ) : Type 0 where
   pub read : SheetRead sheet
-  pub room : met .count ≤ stateLimit
-  pub keeps : Keeps sheet met (builtStates stateLimit sheet)
+  pub room : Room states count
+  pub keeps : Keeps sheet states count (builtStates stateLimit sheet)
 
--- One transition, from byte `at` on.
-pub record CellAsks (sheet : Sheet) (met : Met) (k : ℕ) (out : List ℕ) (at : ℕ) : Type 0 where
-  pub kept : StatesKept sheet met
-  pub known : k < sheet .head .kinds
+-- One transition, from byte `at` on: that of a head and a kind that were read.
+pub record CellAsks (h : Head) (k : SheetKind) (states : List ℕ) (count : ℕ) (out : List ℕ) (at : ℕ) : Type 0 where
+  pub lead : LeadAsks h k
+  pub room : Room states count
   pub there : at + transitionLength ≤ length out
 
+-- Where it is kind k of a sheet, and the sheet's states are kept, the transition is that of the built table.
+pub record CellIs (h : Head) (kind : SheetKind) (a : Allocation) (states : List ℕ) (count : ℕ) (before : List ℕ) (at : ℕ) (after : List ℕ) : Type 0 where
+  pub cell : (sheet : Sheet) (k : ℕ) → h ≡ sheet .head → kind ≡ sheetKind sheet k → Keeps sheet states count (builtStates stateLimit sheet)
+      → after ≡ written before at (builtTransition sheet (builtStates stateLimit sheet) a k)
+
 -- All rows, in the room of a whole table.
-pub record TableAsks (sheet : Sheet) (met : Met) (out : List ℕ) : Type 0 where
-  pub kept : StatesKept sheet met
-  pub there : rowAt (sheet .head .kinds) (met .count) ≤ length out
+pub record TableAsks (sheet : Sheet) (states : List ℕ) (count : ℕ) (out : List ℕ) : Type 0 where
+  pub kept : StatesKept sheet states count
+  pub there : rowAt (sheet .head .kinds) count ≤ length out
 
 -- One of them.
-pub record RowAsks (sheet : Sheet) (met : Met) (i : ℕ) (out : List ℕ) : Type 0 where
-  pub asks : TableAsks sheet met out
-  pub inside : i < met .count
+pub record RowAsks (sheet : Sheet) (states : List ℕ) (count i : ℕ) (out : List ℕ) : Type 0 where
+  pub asks : TableAsks sheet states count out
+  pub inside : i < count
 
 -- The kinds.
 pub record KindsAsk (sheet : Sheet) (out : List ℕ) : Type 0 where

@@ -1,4 +1,6 @@
 // Building a sheet's table: exploring the allocation states, then writing. Document 01, 'The built table'.
+mod keys;
+
 use convention::Allocation;
 use convention::Building;
 use convention::ByRules;
@@ -7,10 +9,11 @@ use convention::Offset;
 use convention::Placement;
 use convention::Reading;
 use convention::Sheet;
+use convention::SheetKind;
 ghost use mathlib.Core.Path.{_≡_};
 ghost use Prim.Native.Nat.{_+_, _%_, _≤_, _<_, _^_};
 ghost use mathlib.Core.List.{[], _∷_};
-ghost use lib.ListN.{length, replicate};
+ghost use lib.ListN.{length};
 ghost use lib.Dec.{eqb};
 ghost use Rattle.convention.specs.Numbers.{stateLimit};
 ghost use Rattle.convention.specs.Bytes.{written, blocks};
@@ -18,108 +21,10 @@ ghost use Rattle.convention.specs.Tables.{rowsAt, rowAt};
 ghost use Rattle.convention.specs.Promised.{SheetRead};
 ghost use Rattle.convention.specs.Rules.{placeFault};
 ghost use Rattle.convention.specs.Explored.{met as metBefore};
-ghost use Rattle.convention.specs.Built.{allocation as allocationOf, sameFlags, sameAllocation, allocations, transitionBytes, builtTransition, builtRow, builtKind, builtStates, builtTable, build as builds, buildMemory};
-ghost use Rattle.building.specs.Reached.{firstAllocation};
-ghost use Rattle.building.specs.Holding.{firstMet, Finds, Holds, Meets, KindAsks, LeadIs, PassAsks, Passes, VisitAsks};
-ghost use Rattle.building.specs.Writing.{CellAsks, TableAsks, RowAsks, KindsAsk, openingBytes, FrontAsks, frontBytes, BuildingIs};
-
-// The states met, in the order of meeting: the first `count` of `states`. Once it is `over`, more were met than have room.
-pub struct Met {
-    pub states: [Allocation; 200],
-    pub count: usize,
-    pub over: bool,
-}
-
-// Whether two sets of registers are the same. The first register that differs ends the comparison.
-fn same_flags(a: [bool; 16], b: [bool; 16]) -> bool
-    ensures { λ r. ⌜ r ≡ sameFlags a b ⌝ }
-{
-    let mut i: usize = 0;
-    while i < 16 {
-        if a[i] != b[i] {
-            return false;
-        }
-        i += 1;
-    }
-    true
-}
-
-// Whether two allocation states are the same. Most that differ do so in the remainder, which is one comparison.
-fn same(a: Allocation, b: Allocation) -> bool
-    ensures { λ r. ⌜ r ≡ sameAllocation a b ⌝ }
-{
-    if a.remainder != b.remainder {
-        return false;
-    }
-    let flags = a.unavailable;
-    let other = b.unavailable;
-    same_flags(flags, other)
-}
-
-// The number of a state among those met: the place of the first that is the same, or their count where none is.
-fn find(met: Met, a: Allocation) -> usize
-    requires { ⌜ met .count ≤ 200 ⌝ }
-    ensures { λ r. ⌜ Finds met a r ⌝ }
-{
-    let mut i: usize = 0;
-    while i < met.count {
-        let state = met.states[i];
-        if same(state, a) {
-            return i;
-        }
-        i += 1;
-    }
-    i
-}
-
-// The first state, 'the empty set with 0'.
-fn first_state() -> Allocation
-    ensures { λ r. ⌜ r ≡ firstAllocation ⌝ }
-{
-    Allocation {
-        unavailable: [false; 16],
-        remainder: 0,
-    }
-}
-
-// Room for as many states as a table may have.
-fn room() -> [Allocation; 200]
-    ensures { λ r. ⌜ r ≡ replicate 200 firstAllocation ⌝ }
-{
-    let first = first_state();
-    [first; 200]
-}
-
-// Where the exploration begins: the first state alone was met.
-fn begin() -> Met
-    ensures { λ r. ⌜ r ≡ firstMet ⌝ }
-{
-    let states = room();
-    Met {
-        states,
-        count: 1,
-        over: false,
-    }
-}
-
-// A state met: kept behind the others if it is new and there is room for it.
-fn meet(met: Met, a: Allocation) -> Met
-    requires { ⌜ met .count ≤ 200 ⌝ }
-    ensures { λ r. ⌜ Meets met a r ⌝ }
-{
-    let at = find(met, a);
-    let mut more = met;
-    if at < met.count {
-        return more;
-    }
-    if met.count == 200 {
-        more.over = true;
-        return more;
-    }
-    more.states[at] = a;
-    more.count = at + 1;
-    more
-}
+ghost use Rattle.convention.specs.Built.{allocation as allocationOf, allocations, transitionBytes, builtRow, builtKind, builtStates, builtTable, build as builds, buildMemory};
+ghost use Rattle.building.specs.Holding.{Holds, LeadAsks, LeadIs, PassAsks, Passes, VisitAsks, ExploreAsks};
+ghost use Rattle.building.specs.Writing.{CellAsks, CellIs, TableAsks, RowAsks, KindsAsk, openingBytes, FrontAsks, frontBytes, BuildingIs};
+use crate::keys::Met;
 
 // An offset's remainder by A.
 fn residue(modulus: u8, offset: Offset) -> u8
@@ -143,19 +48,17 @@ fn allocation(modulus: u8, s: ByRules) -> Allocation
     }
 }
 
-// Where a kind leads from an allocation state: the place that the rules give, and the state behind it.
+// Where a kind leads from an allocation state: the place that the rules give, and the key of the state behind it.
 pub struct Led {
     pub place: Placement,
-    pub next: Allocation,
+    pub next: u32,
 }
 
 // The rules' step from an allocation state, taken at p = its remainder.
-fn lead(sheet: Sheet, a: Allocation, k: u8) -> Led
-    requires { ⌜ KindAsks sheet k ⌝ }
-    ensures { λ r. ⌜ LeadIs sheet a k (r .place) (r .next) ⌝ }
+fn lead(head: Head, kind: SheetKind, a: Allocation) -> Led
+    requires { ⌜ LeadAsks head kind ⌝ }
+    ensures { λ r. ⌜ LeadIs head kind a (r .place) (r .next) ⌝ }
 {
-    let head = sheet.head;
-    let kind = sheet.kinds[k as usize];
     let unavailable = a.unavailable;
     let from = ByRules {
         unavailable,
@@ -165,7 +68,10 @@ fn lead(sheet: Sheet, a: Allocation, k: u8) -> Led
     let place = stepped.place;
     let behind = stepped.next;
     let next = allocation(head.modulus, behind);
-    Led { place, next }
+    Led {
+        place,
+        next: keys::key(next),
+    }
 }
 
 // Whether there is a place. A step without one leads nowhere.
@@ -179,48 +85,54 @@ fn is_place(place: Placement) -> bool
     }
 }
 
-// Kind k gone through at a state: what it leads to is met, where it leads on.
-fn pass(sheet: Sheet, met: Met, a: Allocation, k: u8) -> Met
-    requires { ⌜ PassAsks sheet met k ⌝ }
-    ensures { λ r. ⌜ Passes sheet met a k r ⌝ }
+// A kind gone through at a state: what it leads to is met, where it leads on.
+fn pass(head: Head, kind: SheetKind, a: Allocation, states: &mut [u32], met: Met) -> Met
+    requires { ⌜ PassAsks head kind (now states) (met .count) ⌝ }
+    ensures { λ r. ⌜ Passes head kind a (now (states .entry)) met r (now (states .exit)) ⌝ }
 {
-    let led = lead(sheet, a, k);
+    let led = lead(head, kind, a);
     let place = led.place;
     if is_place(place) {
-        let next = led.next;
-        return meet(met, next);
+        return keys::meet(states, met, led.next);
     }
     met
 }
 
 // State i gone through, in the order of the kinds.
-fn visit(sheet: Sheet, met: Met, i: usize) -> Met
-    requires { ⌜ VisitAsks sheet met i ⌝ }
-    ensures { λ r. ⌜ Holds sheet r (metBefore (allocations sheet) (i + 1)) ⌝ }
+fn visit(sheet: Sheet, states: &mut [u32], met: Met, i: usize) -> Met
+    requires { ⌜ VisitAsks sheet (now states) met i ⌝ }
+    ensures { λ r. ⌜ Holds sheet (now (states .exit)) r (metBefore (allocations sheet) (i + 1)) ⌝ }
 {
-    let from = met.states[i];
-    let kinds = sheet.head.kinds;
+    let from = keys::state_of(states[i]);
+    let head = sheet.head;
+    let kinds = head.kinds;
     let mut more = met;
     let mut k: u8 = 0;
     while k < kinds {
-        more = pass(sheet, more, from, k);
+        let kind = sheet.kinds[k as usize];
+        more = pass(head, kind, from, states, more);
         k += 1;
     }
     more
 }
 
-// The states that lists of kinds reach, in the order of meeting: each that was met is gone through, by its number.
-fn explore(sheet: Sheet) -> Met
-    requires { ⌜ SheetRead sheet ⌝ }
-    ensures { λ r. ⌜ Holds sheet r (builtStates stateLimit sheet) ⌝ }
+// The states that lists of kinds reach, in the order of meeting: each that was met is gone through, by its number. The
+// first is 'the empty set with 0', whose key is 0.
+fn explore(sheet: Sheet, states: &mut [u32]) -> Met
+    requires { ⌜ ExploreAsks sheet (now states) ⌝ }
+    ensures { λ r. ⌜ Holds sheet (now (states .exit)) r (builtStates stateLimit sheet) ⌝ }
 {
-    let mut met = begin();
+    states[0] = 0;
+    let mut met = Met {
+        count: 1,
+        over: false,
+    };
     let mut i: usize = 0;
     while i < met.count {
         if met.over {
             return met;
         }
-        met = visit(sheet, met, i);
+        met = visit(sheet, states, met, i);
         i += 1;
     }
     met
@@ -262,41 +174,50 @@ fn write_transition(modulus: u8, place: Placement, next: u8, out: &mut [u8], at:
     }
 }
 
-// Writes where kind k goes from a state.
-fn write_cell(sheet: Sheet, met: Met, a: Allocation, k: u8, out: &mut [u8], at: usize)
-    requires { ⌜ CellAsks sheet met k (now out) at ⌝ }
-    ensures { λ _. ⌜ now (out .exit) ≡ written (now (out .entry)) at (builtTransition sheet (builtStates stateLimit sheet) a k) ⌝ }
+// Writes where a kind goes from a state.
+fn write_cell(
+    head: Head,
+    kind: SheetKind,
+    a: Allocation,
+    states: &[u32],
+    count: usize,
+    out: &mut [u8],
+    at: usize,
+)
+    requires { ⌜ CellAsks head kind (now states) count (now out) at ⌝ }
+    ensures { λ _. ⌜ CellIs head kind a (now (states .entry)) count (now (out .entry)) at (now (out .exit)) ⌝ }
 {
-    let led = lead(sheet, a, k);
-    let next = led.next;
-    let number = find(met, next);
+    let led = lead(head, kind, a);
+    let number = keys::find(states, count, led.next);
     let place = led.place;
-    write_transition(sheet.head.modulus, place, number as u8, out, at);
+    write_transition(head.modulus, place, number as u8, out, at);
 }
 
 // Writes the row of state i, in the order of the kinds.
-fn write_row(sheet: Sheet, met: Met, i: usize, out: &mut [u8])
-    requires { ⌜ RowAsks sheet met i (now out) ⌝ }
+fn write_row(sheet: Sheet, states: &[u32], count: usize, i: usize, out: &mut [u8])
+    requires { ⌜ RowAsks sheet (now states) count i (now out) ⌝ }
     ensures { λ _. ⌜ now (out .exit) ≡ written (now (out .entry)) (rowAt (sheet .head .kinds) i) (builtRow sheet (builtStates stateLimit sheet) i) ⌝ }
 {
-    let from = met.states[i];
-    let kinds = sheet.head.kinds;
+    let from = keys::state_of(states[i]);
+    let head = sheet.head;
+    let kinds = head.kinds;
     let at = row_at(kinds, i);
     let mut k: u8 = 0;
     while k < kinds {
-        write_cell(sheet, met, from, k, out, at + 4 * k as usize);
+        let kind = sheet.kinds[k as usize];
+        write_cell(head, kind, from, states, count, out, at + 4 * k as usize);
         k += 1;
     }
 }
 
 // Writes a row for each state, in the order of their numbers.
-fn write_rows(sheet: Sheet, met: Met, out: &mut [u8])
-    requires { ⌜ TableAsks sheet met (now out) ⌝ }
-    ensures { λ _. ⌜ now (out .exit) ≡ written (now (out .entry)) (rowsAt (sheet .head .kinds)) (blocks (builtRow sheet (builtStates stateLimit sheet)) (met .count)) ⌝ }
+fn write_rows(sheet: Sheet, states: &[u32], count: usize, out: &mut [u8])
+    requires { ⌜ TableAsks sheet (now states) count (now out) ⌝ }
+    ensures { λ _. ⌜ now (out .exit) ≡ written (now (out .entry)) (rowsAt (sheet .head .kinds)) (blocks (builtRow sheet (builtStates stateLimit sheet)) count) ⌝ }
 {
     let mut i: usize = 0;
-    while i < met.count {
-        write_row(sheet, met, i, out);
+    while i < count {
+        write_row(sheet, states, count, i, out);
         i += 1;
     }
 }
@@ -345,12 +266,12 @@ fn write_front(sheet: Sheet, states: usize, out: &mut [u8])
 }
 
 // Writes the table of a sheet whose states were all met.
-fn write_table(sheet: Sheet, met: Met, out: &mut [u8])
-    requires { ⌜ TableAsks sheet met (now out) ⌝ }
+fn write_table(sheet: Sheet, states: &[u32], count: usize, out: &mut [u8])
+    requires { ⌜ TableAsks sheet (now states) count (now out) ⌝ }
     ensures { λ _. ⌜ now (out .exit) ≡ written (now (out .entry)) 0 (builtTable stateLimit sheet) ⌝ }
 {
-    write_front(sheet, met.count, out);
-    write_rows(sheet, met, out);
+    write_front(sheet, count, out);
+    write_rows(sheet, states, count, out);
 }
 
 // Builds the table of a sheet that was read, in 01's order of refusals: 11, 12.
@@ -358,7 +279,8 @@ fn build_sheet(sheet: Sheet, out: &mut [u8]) -> Building
     requires { ⌜ SheetRead sheet ⌝ }
     ensures { λ r. ⌜ BuildingIs sheet (now (out .entry)) r (now (out .exit)) ⌝ }
 {
-    let met = explore(sheet);
+    let mut states = [0u32; 200];
+    let met = explore(sheet, &mut states);
     if met.over {
         return Building::Refused(11);
     }
@@ -366,7 +288,7 @@ fn build_sheet(sheet: Sheet, out: &mut [u8]) -> Building
     if out.len() < len {
         return Building::Refused(12);
     }
-    write_table(sheet, met, out);
+    write_table(sheet, &states, met.count, out);
     Building::Built(met.count as u16, len)
 }
 

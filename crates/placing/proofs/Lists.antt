@@ -16,47 +16,50 @@ use Rattle.convention.proofs.Bytes.{length-written}
 use Rattle.convention.proofs.Lists.{known, record-length}
 use Rattle.places.specs.Walks.{WalkIs, recordsBefore}
 use Rattle.places.proofs.Walks.{walk-begin, walk-on, walk-hit, walk-end, write-begin, write-on, write-end}
-use Rattle.placing.specs.Asked.{stepMost, StepAsks, StepIs, ArgumentAsks, ListAsks, rulesBegin, Standing, Writing}
+use Rattle.placing.specs.Asked.{stepMost, StepAsks, StepIs, ListAsks, rulesBegin, Standing, Writing}
 use Rattle.placing.proofs.Steps.{p-grows}
 
--- What the step of an argument asks.
-pub argument-step : (sheet : Sheet) (s : ByRules) (k : ℕ) → ArgumentAsks sheet s k → StepAsks (sheet .head) (sheetKind sheet k) s
-argument-step sheet s k asks = record { head = asks .read .head; kind = asks .read .kind k (asks .known); room = asks .room }
+module _ (sheet : Sheet) (ks : List ℕ) (i : ℕ) (asks : ListAsks sheet ks) (h : i < length ks) where
+  -- The next argument's kind is one of the sheet's, and so of the eight.
+  kind-known : getD ks i 0 < sheet .head .kinds
+  kind-known = known (sheet .head .kinds) ks (asks .known) i h
 
-module _ (sheet : Sheet) (ks : List ℕ) (i : ℕ) (s : ByRules) (asks : ListAsks sheet ks) (h : i < length ks) where
-  -- The next argument can be looked at.
-  pub next-asks : s .p .0 ≤ stepMost * i → ArgumentAsks sheet s (getD ks i 0)
-  next-asks reach = record {
-    read = asks .read;
-    known = known (sheet .head .kinds) ks (asks .known) i h;
-    room = omega (arith, reach, asks .short);
-  }
+  pub kind-there : getD ks i 0 < 8
+  kind-there = omega (arith, kind-known, asks .read .head .kinds)
 
-  module _ (place : Placement) (next : ByRules) (step : StepIs (sheet .head) (sheetKind sheet (getD ks i 0)) s place next) where
-    next-reach : s .p .0 ≤ stepMost * i → next .p .0 ≤ stepMost * (i + 1)
-    next-reach reach =
-        let kind = asks .read .kind _ (known (sheet .head .kinds) ks (asks .known) i h) in
-        rw (step .reached) (omega (arith, reach, p-grows (sheet .head) _ s (asks .read .head) kind))
-
-    -- Behind an argument that has a place, and at one that has none.
-    pub standing-on : (fault : ℕ) → Standing sheet ks s i → fault ≡ placeFault place → fault ≡ 0 → Standing sheet ks next (i + 1)
-    standing-on fault standing e z = record {
-      walk = walk-on (byRules sheet) ks s next i fault (standing .walk) h (e ∙ ap placeFault (step .placed)) z (step .reached);
-      reach = next-reach (standing .reach);
+  module _ (s : ByRules) where
+    -- Its step can be taken.
+    pub next-asks : s .p .0 ≤ stepMost * i → StepAsks (sheet .head) (sheetKind sheet (getD ks i 0)) s
+    next-asks reach = record {
+      head = asks .read .head;
+      kind = asks .read .kind _ kind-known;
+      room = omega (arith, reach, asks .short);
     }
 
-    pub standing-hit : (fault : ℕ) (p : Offset) → Standing sheet ks s i → fault ≡ placeFault place → (fault ≡ 0 → ⊥)
-        → WalkIs (byRules sheet) ks fault i p
-    standing-hit fault p standing e nz = walk-hit (byRules sheet) ks s i fault p (standing .walk) h (e ∙ ap placeFault (step .placed)) nz
+    module _ (place : Placement) (next : ByRules) (step : StepIs (sheet .head) (sheetKind sheet (getD ks i 0)) s place next) where
+      next-reach : s .p .0 ≤ stepMost * i → next .p .0 ≤ stepMost * (i + 1)
+      next-reach reach =
+          rw (step .reached) (omega (arith, reach, p-grows (sheet .head) _ s (asks .read .head) (asks .read .kind _ kind-known)))
 
-    -- Behind an argument whose record was written.
-    pub writing-on : (before out after : List ℕ) → 6 * length ks ≤ length before → Writing sheet ks before s i out
-        → after ≡ written out (6 * i) (recordOf place) → Writing sheet ks before next (i + 1) after
-    writing-on before out after room writing e = record {
-      writes = write-on (byRules sheet) ks before out after s next place i (writing .writes) h (step .placed) e (step .reached);
-      reach = next-reach (writing .reach);
-      long = rw e (length-written out (6 * i) (recordOf place) (rw record-length (omega (arith, h, room, writing .long)))) ∙ writing .long;
-    }
+      -- Behind an argument that has a place, and at one that has none.
+      pub standing-on : (fault : ℕ) → Standing sheet ks s i → fault ≡ placeFault place → fault ≡ 0 → Standing sheet ks next (i + 1)
+      standing-on fault standing e z = record {
+        walk = walk-on (byRules sheet) ks s next i fault (standing .walk) h (e ∙ ap placeFault (step .placed)) z (step .reached);
+        reach = next-reach (standing .reach);
+      }
+
+      pub standing-hit : (fault : ℕ) (p : Offset) → Standing sheet ks s i → fault ≡ placeFault place → (fault ≡ 0 → ⊥)
+          → WalkIs (byRules sheet) ks fault i p
+      standing-hit fault p standing e nz = walk-hit (byRules sheet) ks s i fault p (standing .walk) h (e ∙ ap placeFault (step .placed)) nz
+
+      -- Behind an argument whose record was written.
+      pub writing-on : (before out after : List ℕ) → 6 * length ks ≤ length before → Writing sheet ks before s i out
+          → after ≡ written out (6 * i) (recordOf place) → Writing sheet ks before next (i + 1) after
+      writing-on before out after room writing e = record {
+        writes = write-on (byRules sheet) ks before out after s next place i (writing .writes) h (step .placed) e (step .reached);
+        reach = next-reach (writing .reach);
+        long = rw e (length-written out (6 * i) (recordOf place) (rw record-length (omega (arith, h, room, writing .long)))) ∙ writing .long;
+      }
 
 -- Before the first argument, and behind the last.
 module _ (sheet : Sheet) (ks : List ℕ) where

@@ -50,12 +50,6 @@ pub record StepIs (h : Head) (k : SheetKind) (s : ByRules) (place : Placement) (
   pub placed : place ≡ rulesPlace (h .width) k s
   pub reached : next ≡ rulesAfter (h .width) k s
 
--- One argument: a kind of a sheet that was read, and room on the stack.
-pub record ArgumentAsks (sheet : Sheet) (s : ByRules) (k : ℕ) : Type 0 where
-  pub read : SheetRead sheet
-  pub known : k < sheet .head .kinds
-  pub room : s .p .0 + stepMost < 2 ^ 32
-
 -- A list of kinds of a sheet that was read, of no more arguments than a call places.
 pub record ListAsks (sheet : Sheet) (ks : List ℕ) : Type 0 where
   pub read : SheetRead sheet

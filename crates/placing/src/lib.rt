@@ -12,12 +12,11 @@ use places::Walk;
 ghost use mathlib.Core.Path.{_≡_};
 ghost use lib.ListN.{length, take};
 ghost use Rattle.convention.specs.Numbers.{argumentLimit};
-ghost use Rattle.convention.specs.Sheets.{sheetKind};
 ghost use Rattle.convention.specs.Promised.{SheetRead};
 ghost use Rattle.convention.specs.Lists.{walkAnswer};
 ghost use Rattle.convention.specs.Rules.{leftBefore, markRuns, startsOf, rulesPlace, placeFault, rulesAfter, byRules, placeByRules, rulesMemory};
 ghost use Rattle.places.specs.Walks.{WalkIs, recordsBefore, PlacingIs};
-ghost use Rattle.placing.specs.Asked.{RunsWithin, RunsTried, StepAsks, Searched, Found, StepIs, ArgumentAsks, ListAsks, RoomAsks, rulesBegin};
+ghost use Rattle.placing.specs.Asked.{RunsWithin, RunsTried, StepAsks, Searched, Found, StepIs, ListAsks, RoomAsks, rulesBegin};
 
 // How many starts of a kind that needs `count` registers are tried and not taken: those before the first whose run is
 // wholly available, or all of them.
@@ -132,25 +131,18 @@ fn fault_of(place: Placement) -> u8
     }
 }
 
-// One argument, of kind k of a sheet that was read.
-fn argument(sheet: Sheet, s: ByRules, k: u8) -> Stepped
-    requires { ⌜ ArgumentAsks sheet s k ⌝ }
-    ensures { λ r. ⌜ StepIs (sheet .head) (sheetKind sheet k) s (r .place) (r .next) ⌝ }
-{
-    let kind = sheet.kinds[k as usize];
-    let head = sheet.head;
-    step(head, kind, s)
-}
-
-// Goes through a list of known kinds up to its first argument without a place.
+// Goes through a list of known kinds up to its first argument without a place. The kind is taken here and not in a
+// function of its own, which would copy the whole sheet for each argument.
 fn walk(sheet: Sheet, list: &[u8]) -> Walk
     requires { ⌜ ListAsks sheet (now list) ⌝ }
     ensures { λ r. ⌜ WalkIs (byRules sheet) (now (list .entry)) (r .fault) (r .stop) (r .p) ⌝ }
 {
+    let head = sheet.head;
     let mut s = begin();
     let mut i = 0;
     while i < list.len() {
-        let tried = argument(sheet, s, list[i]);
+        let kind = sheet.kinds[list[i] as usize];
+        let tried = step(head, kind, s);
         let place = tried.place;
         let fault = fault_of(place);
         if fault != 0 {
@@ -173,14 +165,16 @@ fn write_list(sheet: Sheet, list: &[u8], out: &mut [u8])
     requires { ⌜ RoomAsks sheet (now list) (now out) ⌝ }
     ensures { λ _. ⌜ now (out .exit) ≡ recordsBefore (byRules sheet) (now (list .entry)) (now (out .entry)) ⌝ }
 {
+    let head = sheet.head;
     let mut s = begin();
-    let mut i = 0;
-    while i < list.len() {
-        let placed = argument(sheet, s, list[i]);
+    let mut done = 0;
+    while done < list.len() {
+        let kind = sheet.kinds[list[done] as usize];
+        let placed = step(head, kind, s);
         let place = placed.place;
-        places::write_record(place, out, 6 * i);
+        places::write_record(place, out, 6 * done);
         s = placed.next;
-        i += 1;
+        done += 1;
     }
 }
 

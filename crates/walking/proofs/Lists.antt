@@ -7,16 +7,19 @@ use lib.ListN.{length, getD}
 use Rattle.convention.specs.declared.Table.{Table}
 use Rattle.convention.specs.declared.ByTable.{ByTable}
 use Rattle.convention.specs.declared.Placement.{Placement}
+use Rattle.convention.specs.declared.Transition.{Transition}
 use Rattle.convention.specs.declared.Offset.{Offset}
 use Rattle.convention.specs.Lists.{recordOf}
 use Rattle.convention.specs.Bytes.{written}
+use Rattle.convention.specs.Tables.{tableKind, transition}
 use Rattle.convention.specs.Walked.{byTable}
 use Rattle.convention.proofs.Lists.{known, turn-free, record-length}
 use Rattle.convention.proofs.Bytes.{length-written}
+use Rattle.table.specs.Asked.{InTable}
 use Rattle.places.specs.Walks.{WalkIs, recordsBefore}
 use Rattle.places.proofs.Walks.{walk-begin, walk-on, walk-hit, walk-end, write-begin, write-on, write-end}
-use Rattle.walking.specs.Asked.{ArgumentAsks, CheckIs, ArgumentIs, WalkAsks, WriteAsks, Standing, Writing, walkBegin}
-use Rattle.walking.proofs.Steps.{next-state, next-reach}
+use Rattle.walking.specs.Asked.{ArgumentAsks, CheckAsks, CheckIs, ArgumentIs, WalkAsks, WriteAsks, Standing, Writing, walkBegin}
+use Rattle.walking.proofs.Steps.{check-asks, next-state, next-reach}
 
 module _ (table : Table) (t ks : List ℕ) (asks : WalkAsks table t ks) where
   -- Before the first argument.
@@ -25,12 +28,21 @@ module _ (table : Table) (t ks : List ℕ) (asks : WalkAsks table t ks) where
 
   module _ (s : ByTable) (i : ℕ) (standing : Standing table t ks s i) (h : i < length ks) where
     -- The next argument can be looked at.
-    pub next-asks : ArgumentAsks table t s (getD ks i 0)
+    next-asks : ArgumentAsks table t s (getD ks i 0)
     next-asks = record {
       read = asks .read;
       inside = record { state = standing .state; kind = known (table .head .kinds) ks (asks .known) i h };
       reach = omega (arith, standing .reach, asks .few);
     }
+
+    pub next-inside : InTable table (s .state) (getD ks i 0)
+    next-inside = next-asks .inside
+
+    pub kind-there : getD ks i 0 < 8
+    kind-there = omega (arith, next-inside .kind, asks .read .head .kinds)
+
+    pub next-check : (x : Transition) → x ≡ transition table t (s .state) (getD ks i 0) → CheckAsks (table .head) (tableKind table (getD ks i 0)) x s
+    next-check = check-asks table t s (getD ks i 0) next-asks
 
     -- Behind an argument without a fault.
     on : (next : ByTable) → byTable table t .fault s (getD ks i 0) ≡ 0 → next ≡ byTable table t .after s (getD ks i 0) → Standing table t ks next (i + 1)
@@ -42,13 +54,17 @@ module _ (table : Table) (t ks : List ℕ) (asks : WalkAsks table t ks) where
           reach = omega (arith, next-reach table t s (getD ks i 0) next-asks none, standing .reach);
         })
 
-    pub checked-on : (fault : ℕ) (next : ByTable) → CheckIs table t s (getD ks i 0) fault next → fault ≡ 0 → Standing table t ks next (i + 1)
-    checked-on fault next check z = on next (sym (check .found) ∙ z) (check .after z)
+    module _ (x : Transition) (ex : x ≡ transition table t (s .state) (getD ks i 0)) (fault : ℕ) (next : ByTable)
+        (check : CheckIs (table .head) (tableKind table (getD ks i 0)) x s fault next) where
+      found : fault ≡ byTable table t .fault s (getD ks i 0)
+      found = rw ex at (check .found)
 
-    -- At an argument with one.
-    pub checked-hit : (fault : ℕ) (next : ByTable) (p : Offset) → CheckIs table t s (getD ks i 0) fault next → (fault ≡ 0 → ⊥)
-        → WalkIs (byTable table t) ks fault i p
-    checked-hit fault next p check nz = walk-hit (byTable table t) ks s i fault p (standing .walk) h (check .found) nz
+      pub checked-on : fault ≡ 0 → Standing table t ks next (i + 1)
+      checked-on z = on next (sym found ∙ z) (rw ex at (check .after z))
+
+      -- At an argument with one.
+      pub checked-hit : (p : Offset) → (fault ≡ 0 → ⊥) → WalkIs (byTable table t) ks fault i p
+      checked-hit p nz = walk-hit (byTable table t) ks s i fault p (standing .walk) h found nz
 
   -- Behind the last argument.
   pub standing-end : (s : ByTable) (i : ℕ) → Standing table t ks s i → length ks ≤ i → WalkIs (byTable table t) ks 0 i (s .p)

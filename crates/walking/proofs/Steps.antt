@@ -21,7 +21,7 @@ use Rattle.convention.proofs.Numbers.{or-zero, unless-zero}
 use Rattle.convention.proofs.Offsets.{least-lt, modulus-pos, modulus-most}
 use Rattle.convention.proofs.Tables.{transition-registers, transition-residue, transition-next}
 use Rattle.places.specs.Ends.{runEnd, stackEnd}
-use Rattle.walking.specs.Asked.{RunWithin, FaultAsks, PlaceAsks, StepIs, ArgumentAsks, CheckIs, ArgumentIs}
+use Rattle.walking.specs.Asked.{RunWithin, FaultAsks, PlaceAsks, StepIs, ArgumentAsks, CheckAsks, CheckIs, ArgumentIs}
 
 -- A step without a fault takes p at most 79 bytes further: less than 16 are skipped, and a kind has at most 64.
 pub reach : (h : Head) (kind : TableKind) (x : Transition) (s : ByTable) → HeadRead h → kind .size ≤ 64 → tableFault h kind x (s .given) ≡ 0
@@ -89,6 +89,9 @@ module _ (table : Table) (t : List ℕ) (s : ByTable) (k : ℕ) (asks : Argument
         room = omega (arith, asks .reach);
       })
 
+  pub check-asks : (x : Transition) → x ≡ here → CheckAsks (table .head) (tableKind table k) x s
+  check-asks x ex = record { judged = fault-asks (tableKind table k) x refl ex; placed = place-asks (table .head) x refl ex }
+
   -- A step without a fault stays in the table, and takes p at most 79 bytes further.
   pub next-state : byTable table t .after s k .state < table .states
   next-state = rw after-state (transition-next (table .head) (table .states) here right (asks .read .some))
@@ -96,18 +99,15 @@ module _ (table : Table) (t : List ℕ) (s : ByTable) (k : ℕ) (asks : Argument
   pub next-reach : byTable table t .fault s k ≡ 0 → byTable table t .after s k .p .0 ≤ s .p .0 + 79
   next-reach e = reach (table .head) (tableKind table k) here s (asks .read .head) (shape .size) e
 
--- What a step's fault, place and state behind it say of the argument.
-module _ (table : Table) (t : List ℕ) (s : ByTable) (k : ℕ) (h : Head) (x : Transition) (eh : h ≡ table .head) (ex : x ≡ transition table t (s .state) k) where
-  pub argument-is : (place : Placement) (next : ByTable) → StepIs h x s place next → ArgumentIs table t s k place next
-  argument-is place next step =
-      record { placed = rw (ex, eh) at (step .placed); after = rw (ex, eh) at (step .after) }
+-- What a step's place and the state behind it say of the argument.
+pub argument-is : (table : Table) (t : List ℕ) (s : ByTable) (k : ℕ) (h : Head) (x : Transition) (place : Placement) (next : ByTable)
+    → h ≡ table .head → x ≡ transition table t (s .state) k → StepIs h x s place next → ArgumentIs table t s k place next
+argument-is table t s k h x place next eh ex step = record { placed = rw (ex, eh) at (step .placed); after = rw (ex, eh) at (step .after) }
 
-  module _ (kind : TableKind) (fault : ℕ) (ek : kind ≡ tableKind table k) (ef : fault ≡ tableFault h kind x (s .given)) where
-    found : fault ≡ byTable table t .fault s k
-    found = rw (ex, eh, ek) at ef
+-- What its fault says, where there is one and where there is none.
+module _ (h : Head) (kind : TableKind) (x : Transition) (s : ByTable) (fault : ℕ) (found : fault ≡ tableFault h kind x (s .given)) where
+  pub check-hit : (next : ByTable) → (fault ≡ 0 → ⊥) → CheckIs h kind x s fault next
+  check-hit next nz = record { found = found; after = λ z. absurd (nz z) }
 
-    pub check-hit : (next : ByTable) → (fault ≡ 0 → ⊥) → CheckIs table t s k fault next
-    check-hit next nz = record { found = found; after = λ z. absurd (nz z) }
-
-    pub check-on : (place : Placement) (next : ByTable) → fault ≡ 0 → StepIs h x s place next → CheckIs table t s k 0 next
-    check-on place next z step = record { found = sym z ∙ found; after = λ zero. argument-is place next step .after }
+  pub check-on : (place : Placement) (next : ByTable) → fault ≡ 0 → StepIs h x s place next → CheckIs h kind x s 0 next
+  check-on place next z step = record { found = sym z ∙ found; after = λ zero. step .after }

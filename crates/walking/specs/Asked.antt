@@ -12,7 +12,7 @@ use Rattle.convention.specs.declared.Table.{Table}
 use Rattle.convention.specs.Numbers.{stateLimit, argumentLimit}
 use Rattle.convention.specs.Rules.{noRegisters}
 use Rattle.convention.specs.Lists.{unknownAt, faultFrom, recordLength}
-use Rattle.convention.specs.Walked.{tablePlace, tableAfter, byTable}
+use Rattle.convention.specs.Walked.{tablePlace, tableFault, tableAfter, byTable}
 use Rattle.convention.specs.Promised.{TableRead}
 use Rattle.table.specs.Asked.{InTable}
 use Rattle.places.specs.Walks.{WalkLeft, WriteLeft}
@@ -38,6 +38,16 @@ pub record StepIs (h : Head) (x : Transition) (s : ByTable) (place : Placement) 
   pub placed : place ≡ tablePlace h x (s .p .0)
   pub after : next ≡ tableAfter h x s
 
+-- A transition to be looked at for a kind: what its fault asks, and what its place does.
+pub record CheckAsks (h : Head) (kind : TableKind) (x : Transition) (s : ByTable) : Type 0 where
+  pub judged : FaultAsks kind x
+  pub placed : PlaceAsks h x s
+
+-- Its step's fault, and the state behind it if there is none.
+pub record CheckIs (h : Head) (kind : TableKind) (x : Transition) (s : ByTable) (fault : ℕ) (next : ByTable) : Type 0 where
+  pub found : fault ≡ tableFault h kind x (s .given)
+  pub after : fault ≡ 0 → next ≡ tableAfter h x s
+
 -- Where the walk begins: state 0, no register given, p = 0.
 abbrev pub walkBegin : ByTable
 walkBegin = record { state = 0; given = noRegisters; p = record { 0 = 0 } }
@@ -47,11 +57,6 @@ pub record ArgumentAsks (table : Table) (t : List ℕ) (s : ByTable) (k : ℕ) :
   pub read : TableRead stateLimit table t
   pub inside : InTable table (s .state) k
   pub reach : s .p .0 ≤ 79 * argumentLimit
-
--- Its step's fault, and the state behind it if there is none.
-pub record CheckIs (table : Table) (t : List ℕ) (s : ByTable) (k fault : ℕ) (next : ByTable) : Type 0 where
-  pub found : fault ≡ byTable table t .fault s k
-  pub after : fault ≡ 0 → next ≡ byTable table t .after s k
 
 -- Its place, and the state behind it.
 pub record ArgumentIs (table : Table) (t : List ℕ) (s : ByTable) (k : ℕ) (place : Placement) (next : ByTable) : Type 0 where

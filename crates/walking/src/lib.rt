@@ -17,7 +17,7 @@ ghost use Rattle.convention.specs.Numbers.{stateLimit, argumentLimit};
 ghost use Rattle.convention.specs.Promised.{TableRead};
 ghost use Rattle.convention.specs.Walked.{registersFault, stackFault, tableFault, tablePlace, byTable, placeByTable, tableMemory};
 ghost use Rattle.places.specs.Walks.{WalkIs, PlacingIs, recordsBefore};
-ghost use Rattle.walking.specs.Asked.{RunWithin, FaultAsks, PlaceAsks, StepIs, ArgumentAsks, CheckIs, ArgumentIs, WalkAsks, WriteAsks, walkBegin};
+ghost use Rattle.walking.specs.Asked.{RunWithin, FaultAsks, PlaceAsks, StepIs, ArgumentAsks, CheckAsks, CheckIs, ArgumentIs, WalkAsks, WriteAsks, walkBegin};
 
 // Faults 2 and 3 of a step that gives registers.
 fn registers_fault(head: Head, kind: TableKind, x: Transition, given: [bool; 16]) -> u8
@@ -119,14 +119,11 @@ pub struct Checked {
     pub next: ByTable,
 }
 
-// Looks at one argument, of a kind of a table that was read. One transition is read.
-fn check(table: Table, t: &[u8], s: ByTable, k: u8) -> Checked
-    requires { ⌜ ArgumentAsks table (now t) s k ⌝ }
-    ensures { λ r. ⌜ CheckIs table (now (t .entry)) s k (r .fault) (r .next) ⌝ }
+// Looks at one argument of a kind, by its transition.
+fn check(head: Head, kind: TableKind, x: Transition, s: ByTable) -> Checked
+    requires { ⌜ CheckAsks head kind x s ⌝ }
+    ensures { λ r. ⌜ CheckIs head kind x s (r .fault) (r .next) ⌝ }
 {
-    let x = table::transition_of(table, t, s.state, k);
-    let kind = table.kinds[k as usize];
-    let head = table.head;
     let given = s.given;
     let fault = step_fault(head, kind, x, given);
     if fault != 0 {
@@ -147,15 +144,20 @@ fn argument(table: Table, t: &[u8], s: ByTable, k: u8) -> Stepped
     step(head, x, s)
 }
 
-// Goes through a list of known kinds up to its first faulty step.
+// Goes through a list of known kinds up to its first faulty step. The kind is taken here and not in a function of its own,
+// which would copy the table's kinds for each argument.
 pub fn walk(table: Table, t: &[u8], list: &[u8]) -> Walk
     requires { ⌜ WalkAsks table (now t) (now list) ⌝ }
     ensures { λ r. ⌜ WalkIs (byTable table (now (t .entry))) (now (list .entry)) (r .fault) (r .stop) (r .p) ⌝ }
 {
+    let head = table.head;
     let mut s = begin();
     let mut i = 0;
     while i < list.len() {
-        let checked = check(table, t, s, list[i]);
+        let k = list[i];
+        let x = table::transition_of(table, t, s.state, k);
+        let kind = table.kinds[k as usize];
+        let checked = check(head, kind, x, s);
         if checked.fault != 0 {
             return Walk {
                 fault: checked.fault,

@@ -8,16 +8,19 @@ use Rattle.building.proofs.explore.Statement.{statement}
 use Rattle.building.proofs.explore.Tie as tie
 
 abbrev Inv-loop : tie.InvT-loop
-Inv-loop sheet met₀ i₀ met i = Exploring sheet i met
+Inv-loop sheet states₀ met₀ i₀ states met i = Exploring sheet i states met
 
 abbrev μ-loop : tie.MeasureT-loop
-μ-loop sheet met₀ i₀ met i = stateLimit - i
+μ-loop sheet states₀ met₀ i₀ states met i = stateLimit - i
 
-begin-requires : tie.Need-begin-requires Inv-loop μ-loop
-begin-requires c κs = search needs
+slice-write-states : tie.Need-slice-write-states Inv-loop μ-loop
+slice-write-states c = search needs
 
 loop-holds : tie.Need-loop-holds Inv-loop μ-loop
 loop-holds c = search (exploring-begin, needs)
+
+same-length : tie.Need-same-length Inv-loop μ-loop
+same-length c = search needs
 
 returns : tie.Need-returns Inv-loop μ-loop
 returns c = search (exploring-over, needs)
@@ -34,6 +37,9 @@ loop-less c = search needs
 loop-again : tie.Need-loop-again Inv-loop μ-loop
 loop-again c = search needs
 
+same-length-2 : tie.Need-same-length-2 Inv-loop μ-loop
+same-length-2 c = search needs
+
 returns-2 : tie.Need-returns-2 Inv-loop μ-loop
 returns-2 c = search (exploring-end, needs)
 
@@ -43,11 +49,13 @@ explore-spec =
     (tie.spec
     Inv-loop
     μ-loop
-    begin-requires
+    slice-write-states
     loop-holds
+    same-length
     returns
     visit-requires
     add-i
     loop-less
     loop-again
+    same-length-2
     returns-2)

@@ -13,6 +13,9 @@ is-place-requires c κs = search needs
 meet-requires : tie.Need-meet-requires
 meet-requires c κs = search needs
 
+same-length : tie.Need-same-length
+same-length c = search needs
+
 returns : tie.Need-returns
 returns c = search (passes-on, needs)
 
@@ -20,4 +23,6 @@ returns-2 : tie.Need-returns-2
 returns-2 c = search (passes-nowhere, needs)
 
 pub pass-spec : {M : Type 1} → statement M
-pass-spec = tie.close (tie.spec lead-requires is-place-requires meet-requires returns returns-2)
+pass-spec =
+    tie.close
+    (tie.spec lead-requires is-place-requires meet-requires same-length returns returns-2)

@@ -1,28 +1,41 @@
 -- `visit`: before kind k the states kept are those met by the kinds below k.
 use Prim.Native.Nat.{_-_}
 use Rattle.building.specs.Holding.{Visiting}
+use Rattle.building.proofs.Leading.{lead-asks}
 use Rattle.building.proofs.Meeting.{visiting-begin, visiting-on, visiting-end}
 use borrow.Author.Needs.{needs}
 use Rattle.building.proofs.visit.Statement.{statement}
 use Rattle.building.proofs.visit.Tie as tie
 
 abbrev Inv-loop : tie.InvT-loop
-Inv-loop sheet i from kinds more₀ k₀ more k = Visiting sheet from i k more
+Inv-loop states₀ i sheet from head kinds more₀ k₀ states more k = Visiting sheet from i k states more
 
 abbrev μ-loop : tie.MeasureT-loop
-μ-loop sheet i from kinds more₀ k₀ more k = kinds - k
+μ-loop states₀ i sheet from head kinds more₀ k₀ states more k = kinds - k
 
-mul-from : tie.Need-mul-from Inv-loop μ-loop
-mul-from c = search needs
+mul-state-of : tie.Need-mul-state-of Inv-loop μ-loop
+mul-state-of c = search needs
 
-element-copy-out-from : tie.Need-element-copy-out-from Inv-loop μ-loop
-element-copy-out-from c = search needs
+slice-read-state-of : tie.Need-slice-read-state-of Inv-loop μ-loop
+slice-read-state-of c = search needs
+
+state-of-requires : tie.Need-state-of-requires Inv-loop μ-loop
+state-of-requires c κs = search needs
 
 loop-holds : tie.Need-loop-holds Inv-loop μ-loop
 loop-holds c = search (visiting-begin, needs)
 
+cast-kind : tie.Need-cast-kind Inv-loop μ-loop
+cast-kind c = search needs
+
+mul-kind : tie.Need-mul-kind Inv-loop μ-loop
+mul-kind c = search needs
+
+element-copy-out-kind : tie.Need-element-copy-out-kind Inv-loop μ-loop
+element-copy-out-kind c = search needs
+
 pass-requires : tie.Need-pass-requires Inv-loop μ-loop
-pass-requires c κs = search needs
+pass-requires c κs = search (lead-asks, needs)
 
 add-k : tie.Need-add-k Inv-loop μ-loop
 add-k c = search needs
@@ -33,6 +46,9 @@ loop-less c = search needs
 loop-again : tie.Need-loop-again Inv-loop μ-loop
 loop-again c = search (visiting-on, needs)
 
+same-length : tie.Need-same-length Inv-loop μ-loop
+same-length c = search needs
+
 returns : tie.Need-returns Inv-loop μ-loop
 returns c = search (visiting-end, needs)
 
@@ -42,13 +58,16 @@ visit-spec =
     (tie.spec
     Inv-loop
     μ-loop
-    mul-from
-    element-copy-out-from
+    mul-state-of
+    slice-read-state-of
+    state-of-requires
     loop-holds
+    cast-kind
+    mul-kind
+    element-copy-out-kind
     pass-requires
     add-k
     loop-less
     loop-again
+    same-length
     returns)
-
--- x

@@ -1,4 +1,4 @@
--- `write_cell`: what `find` answers is the next state's number.
+-- `write_cell`: where the next state's key is found is its number.
 use Rattle.building.proofs.Leading.{modulus-some}
 use Rattle.building.proofs.Writing.{cell-written}
 use borrow.Author.Needs.{needs}

@@ -9,22 +9,34 @@ use Rattle.building.proofs.write_row.Statement.{statement}
 use Rattle.building.proofs.write_row.Tie as tie
 
 abbrev Inv-loop : tie.InvT-loop
-Inv-loop sheet i out₀ met from kinds at k₀ out k = BlocksLeft (builtTransition sheet (builtStates stateLimit sheet) from) at k kinds out₀ out
+Inv-loop states count i out₀ sheet from head kinds at k₀ out k = BlocksLeft (builtTransition sheet (builtStates stateLimit sheet) from) at k kinds out₀ out
 
 abbrev μ-loop : tie.MeasureT-loop
-μ-loop sheet i out₀ met from kinds at k₀ out k = kinds - k
+μ-loop states count i out₀ sheet from head kinds at k₀ out k = kinds - k
 
-mul-from : tie.Need-mul-from Inv-loop μ-loop
-mul-from c = search needs
+mul-state-of : tie.Need-mul-state-of Inv-loop μ-loop
+mul-state-of c = search needs
 
-element-copy-out-from : tie.Need-element-copy-out-from Inv-loop μ-loop
-element-copy-out-from c = search needs
+shared-slice-read-state-of : tie.Need-shared-slice-read-state-of Inv-loop μ-loop
+shared-slice-read-state-of c = search needs
+
+state-of-requires : tie.Need-state-of-requires Inv-loop μ-loop
+state-of-requires c κs = search needs
 
 row-at-requires : tie.Need-row-at-requires Inv-loop μ-loop
 row-at-requires c κs = search needs
 
 loop-holds : tie.Need-loop-holds Inv-loop μ-loop
 loop-holds c = search (blocks-begin, needs)
+
+cast-kind : tie.Need-cast-kind Inv-loop μ-loop
+cast-kind c = search needs
+
+mul-kind : tie.Need-mul-kind Inv-loop μ-loop
+mul-kind c = search needs
+
+element-copy-out-kind : tie.Need-element-copy-out-kind Inv-loop μ-loop
+element-copy-out-kind c = search needs
 
 cast-write-cell : tie.Need-cast-write-cell Inv-loop μ-loop
 cast-write-cell c = search needs
@@ -59,10 +71,14 @@ write-row-spec =
     (tie.spec
     Inv-loop
     μ-loop
-    mul-from
-    element-copy-out-from
+    mul-state-of
+    shared-slice-read-state-of
+    state-of-requires
     row-at-requires
     loop-holds
+    cast-kind
+    mul-kind
+    element-copy-out-kind
     cast-write-cell
     mul-write-cell
     add-write-cell

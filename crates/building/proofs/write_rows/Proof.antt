@@ -10,10 +10,10 @@ use Rattle.building.proofs.write_rows.Statement.{statement}
 use Rattle.building.proofs.write_rows.Tie as tie
 
 abbrev Inv-loop : tie.InvT-loop
-Inv-loop sheet met out₀ i₀ out i = BlocksLeft (builtRow sheet (builtStates stateLimit sheet)) (rowsAt (sheet .head .kinds)) i (met .count) out₀ out
+Inv-loop sheet states count out₀ i₀ out i = BlocksLeft (builtRow sheet (builtStates stateLimit sheet)) (rowsAt (sheet .head .kinds)) i count out₀ out
 
 abbrev μ-loop : tie.MeasureT-loop
-μ-loop sheet met out₀ i₀ out i = met .count - i
+μ-loop sheet states count out₀ i₀ out i = count - i
 
 loop-holds : tie.Need-loop-holds Inv-loop μ-loop
 loop-holds c = search (blocks-begin, needs)

@@ -1,17 +1,18 @@
 -- `walk`: at each argument, what is left of the list answers the whole, and p leaves room for one more step.
-use Rattle.placing.proofs.Lists.{standing-begin, next-asks, standing-on, standing-hit, standing-end}
+use Rattle.placing.proofs.Lists.{standing-begin, kind-there, next-asks, standing-on, standing-hit, standing-end}
 use Rattle.placing.specs.Asked.{Standing}
 use lib.ListN.{length}
 use Prim.Native.Nat.{_-_}
-use borrow.Author.Needs.{needs}
+use lib.Dec.{lit<}
+use borrow.Author.Needs.{needs, fits-under, scaled-fits}
 use Rattle.placing.proofs.walk.Statement.{statement}
 use Rattle.placing.proofs.walk.Tie as tie
 
 abbrev Inv-loop : tie.InvT-loop
-Inv-loop sheet list s₀ i₀ s i = Standing sheet list s i
+Inv-loop list sheet head s₀ i₀ s i = Standing sheet list s i
 
 abbrev μ-loop : tie.MeasureT-loop
-μ-loop sheet list s₀ i₀ s i = length list - i
+μ-loop list sheet head s₀ i₀ s i = length list - i
 
 begin-requires : tie.Need-begin-requires Inv-loop μ-loop
 begin-requires c κs = search needs
@@ -19,11 +20,20 @@ begin-requires c κs = search needs
 loop-holds : tie.Need-loop-holds Inv-loop μ-loop
 loop-holds c = search (standing-begin, needs)
 
-shared-slice-read-argument : tie.Need-shared-slice-read-argument Inv-loop μ-loop
-shared-slice-read-argument c = search needs
+shared-slice-read-kind : tie.Need-shared-slice-read-kind Inv-loop μ-loop
+shared-slice-read-kind c = search needs
 
-argument-requires : tie.Need-argument-requires Inv-loop μ-loop
-argument-requires c κs = search (next-asks, needs)
+cast-kind : tie.Need-cast-kind Inv-loop μ-loop
+cast-kind c = fits-under _ _ 8 (search (kind-there, needs)) tt
+
+mul-kind : tie.Need-mul-kind Inv-loop μ-loop
+mul-kind c = scaled-fits _ 8 20 (search (kind-there, needs)) (lit< tt)
+
+element-copy-out-kind : tie.Need-element-copy-out-kind Inv-loop μ-loop
+element-copy-out-kind c = search (kind-there, needs)
+
+step-requires : tie.Need-step-requires Inv-loop μ-loop
+step-requires c κs = search (next-asks, needs)
 
 fault-of-requires : tie.Need-fault-of-requires Inv-loop μ-loop
 fault-of-requires c κs = search needs
@@ -51,8 +61,11 @@ walk-spec =
     μ-loop
     begin-requires
     loop-holds
-    shared-slice-read-argument
-    argument-requires
+    shared-slice-read-kind
+    cast-kind
+    mul-kind
+    element-copy-out-kind
+    step-requires
     fault-of-requires
     returns
     add-i

@@ -1,17 +1,18 @@
 -- `write_list`: at each argument, the records that are there and those of what is left give the whole.
-use Rattle.placing.proofs.Lists.{writing-begin, next-asks, writing-on, writing-end}
+use Rattle.placing.proofs.Lists.{writing-begin, kind-there, next-asks, writing-on, writing-end}
 use Rattle.placing.specs.Asked.{Writing}
 use lib.ListN.{length}
 use Prim.Native.Nat.{_-_}
-use borrow.Author.Needs.{needs}
+use lib.Dec.{lit<}
+use borrow.Author.Needs.{needs, fits-under, scaled-fits}
 use Rattle.placing.proofs.write_list.Statement.{statement}
 use Rattle.placing.proofs.write_list.Tie as tie
 
 abbrev Inv-loop : tie.InvT-loop
-Inv-loop sheet list out₀ s₀ i₀ out s i = Writing sheet list out₀ s i out
+Inv-loop list out₀ sheet head s₀ done₀ out s done = Writing sheet list out₀ s done out
 
 abbrev μ-loop : tie.MeasureT-loop
-μ-loop sheet list out₀ s₀ i₀ out s i = length list - i
+μ-loop list out₀ sheet head s₀ done₀ out s done = length list - done
 
 begin-requires : tie.Need-begin-requires Inv-loop μ-loop
 begin-requires c κs = search needs
@@ -19,11 +20,20 @@ begin-requires c κs = search needs
 loop-holds : tie.Need-loop-holds Inv-loop μ-loop
 loop-holds c = search (writing-begin, needs)
 
-shared-slice-read-argument : tie.Need-shared-slice-read-argument Inv-loop μ-loop
-shared-slice-read-argument c = search needs
+shared-slice-read-kind : tie.Need-shared-slice-read-kind Inv-loop μ-loop
+shared-slice-read-kind c = search needs
 
-argument-requires : tie.Need-argument-requires Inv-loop μ-loop
-argument-requires c κs = search (next-asks, needs)
+cast-kind : tie.Need-cast-kind Inv-loop μ-loop
+cast-kind c = fits-under _ _ 8 (search (kind-there, needs)) tt
+
+mul-kind : tie.Need-mul-kind Inv-loop μ-loop
+mul-kind c = scaled-fits _ 8 20 (search (kind-there, needs)) (lit< tt)
+
+element-copy-out-kind : tie.Need-element-copy-out-kind Inv-loop μ-loop
+element-copy-out-kind c = search (kind-there, needs)
+
+step-requires : tie.Need-step-requires Inv-loop μ-loop
+step-requires c κs = search (next-asks, needs)
 
 mul-write-record : tie.Need-mul-write-record Inv-loop μ-loop
 mul-write-record c = search needs
@@ -31,8 +41,8 @@ mul-write-record c = search needs
 write-record-requires : tie.Need-write-record-requires Inv-loop μ-loop
 write-record-requires c κs = search needs
 
-add-i : tie.Need-add-i Inv-loop μ-loop
-add-i c = search needs
+add-done : tie.Need-add-done Inv-loop μ-loop
+add-done c = search needs
 
 loop-less : tie.Need-loop-less Inv-loop μ-loop
 loop-less c = search needs
@@ -54,11 +64,14 @@ write-list-spec =
     μ-loop
     begin-requires
     loop-holds
-    shared-slice-read-argument
-    argument-requires
+    shared-slice-read-kind
+    cast-kind
+    mul-kind
+    element-copy-out-kind
+    step-requires
     mul-write-record
     write-record-requires
-    add-i
+    add-done
     loop-less
     loop-again
     same-length

@@ -1,26 +1,17 @@
 -- `check`: the fault of the transition's step, and the state behind it, by what each call answers.
-use Rattle.walking.proofs.Steps.{fault-asks, place-asks, check-hit, check-on}
+use Rattle.walking.proofs.Steps.{check-hit, check-on}
 use borrow.Author.Needs.{needs}
 use Rattle.walking.proofs.check.Statement.{statement}
 use Rattle.walking.proofs.check.Tie as tie
 
-transition-of-requires : tie.Need-transition-of-requires
-transition-of-requires c κs = search needs
-
-mul-kind : tie.Need-mul-kind
-mul-kind c = search needs
-
-element-copy-out-kind : tie.Need-element-copy-out-kind
-element-copy-out-kind c = search needs
-
 step-fault-requires : tie.Need-step-fault-requires
-step-fault-requires c κs = search (fault-asks, needs)
+step-fault-requires c κs = search needs
 
 returns : tie.Need-returns
 returns c = search (check-hit, needs)
 
 step-requires : tie.Need-step-requires
-step-requires c κs = search (place-asks, needs)
+step-requires c κs = search needs
 
 returns-2 : tie.Need-returns-2
 returns-2 c = search (check-on, needs)
@@ -29,9 +20,6 @@ pub check-spec : {M : Type 1} → statement M
 check-spec =
     tie.close
     (tie.spec
-    transition-of-requires
-    mul-kind
-    element-copy-out-kind
     step-fault-requires
     returns
     step-requires

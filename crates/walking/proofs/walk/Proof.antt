@@ -1,18 +1,18 @@
 -- `walk`: what is left of the list answers the whole; the walk stands in a state of the table, with p within reach.
-use Rattle.walking.proofs.Lists.{standing-begin, next-asks, checked-on, checked-hit, standing-end}
-use Rattle.walking.proofs.Lists.{standing-begin, next-asks, checked-on}
+use Rattle.walking.proofs.Lists.{standing-begin, next-inside, kind-there, next-check, checked-on, checked-hit, standing-end}
 use Rattle.walking.specs.Asked.{Standing}
 use lib.ListN.{length}
 use Prim.Native.Nat.{_-_}
-use borrow.Author.Needs.{needs}
+use lib.Dec.{lit<}
+use borrow.Author.Needs.{needs, fits-under, scaled-fits}
 use Rattle.walking.proofs.walk.Statement.{statement}
 use Rattle.walking.proofs.walk.Tie as tie
 
 abbrev Inv-loop : tie.InvT-loop
-Inv-loop table t list s₀ i₀ s i = Standing table t list s i
+Inv-loop t list table head s₀ i₀ s i = Standing table t list s i
 
 abbrev μ-loop : tie.MeasureT-loop
-μ-loop table t list s₀ i₀ s i = length list - i
+μ-loop t list table head s₀ i₀ s i = length list - i
 
 begin-requires : tie.Need-begin-requires Inv-loop μ-loop
 begin-requires c κs = search needs
@@ -20,11 +20,23 @@ begin-requires c κs = search needs
 loop-holds : tie.Need-loop-holds Inv-loop μ-loop
 loop-holds c = search (standing-begin, needs)
 
-shared-slice-read-check : tie.Need-shared-slice-read-check Inv-loop μ-loop
-shared-slice-read-check c = search needs
+shared-slice-read-k : tie.Need-shared-slice-read-k Inv-loop μ-loop
+shared-slice-read-k c = search needs
+
+transition-of-requires : tie.Need-transition-of-requires Inv-loop μ-loop
+transition-of-requires c κs = (search needs, search (next-inside, needs))
+
+cast-kind : tie.Need-cast-kind Inv-loop μ-loop
+cast-kind c = fits-under _ _ 8 (search (kind-there, needs)) tt
+
+mul-kind : tie.Need-mul-kind Inv-loop μ-loop
+mul-kind c = scaled-fits _ 8 2 (search (kind-there, needs)) (lit< tt)
+
+element-copy-out-kind : tie.Need-element-copy-out-kind Inv-loop μ-loop
+element-copy-out-kind c = search (kind-there, needs)
 
 check-requires : tie.Need-check-requires Inv-loop μ-loop
-check-requires c κs = search (next-asks, needs)
+check-requires c κs = search (next-check, needs)
 
 returns : tie.Need-returns Inv-loop μ-loop
 returns c = search (checked-hit, needs)
@@ -49,7 +61,11 @@ walk-spec =
     μ-loop
     begin-requires
     loop-holds
-    shared-slice-read-check
+    shared-slice-read-k
+    transition-of-requires
+    cast-kind
+    mul-kind
+    element-copy-out-kind
     check-requires
     returns
     add-i

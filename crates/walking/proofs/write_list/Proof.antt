@@ -1,8 +1,6 @@
 -- `write_list`: the records of the arguments so far stand in front; what is left of the list gives those that are left.
 use Rattle.walking.proofs.Lists.{writing-begin, writing-asks, writing-room, writing-on, writing-end}
 use Rattle.walking.specs.Asked.{Writing}
-use Prim.Native.Nat.{_-_}
--- `write_list`: the records of the arguments so far stand in front; what is left of the list gives those that are left.
 use lib.ListN.{length}
 use Prim.Native.Nat.{_-_}
 use borrow.Author.Needs.{needs}

@@ -1,28 +1,25 @@
--- `find`: at each turn no state before i is the same.
+-- `find`: at each turn no key before key i is the one.
 use Prim.Native.Nat.{_-_}
 use Rattle.building.specs.Holding.{Passed}
-use Rattle.building.proofs.Comparing.{find-begin, find-here, find-on, find-end}
+use Rattle.building.proofs.Keyed.{find-begin, find-here, find-on, find-end}
 use borrow.Author.Needs.{needs}
-use Rattle.building.proofs.find.Statement.{statement}
-use Rattle.building.proofs.find.Tie as tie
+use Rattle.building.proofs.keys.find.Statement.{statement}
+use Rattle.building.proofs.keys.find.Tie as tie
 
 abbrev Inv-loop : tie.InvT-loop
-Inv-loop a met i₀ i = Passed met a i
+Inv-loop states count key i₀ i = Passed states count key i
 
 abbrev μ-loop : tie.MeasureT-loop
-μ-loop a met i₀ i = met .count - i
+μ-loop states count key i₀ i = count - i
 
 loop-holds : tie.Need-loop-holds Inv-loop μ-loop
 loop-holds c = search (find-begin, needs)
 
-mul-state : tie.Need-mul-state Inv-loop μ-loop
-mul-state c = search needs
+mul-if1 : tie.Need-mul-if1 Inv-loop μ-loop
+mul-if1 c = search needs
 
-element-copy-out-state : tie.Need-element-copy-out-state Inv-loop μ-loop
-element-copy-out-state c = search needs
-
-same-requires : tie.Need-same-requires Inv-loop μ-loop
-same-requires c κs = search needs
+shared-slice-read-if1 : tie.Need-shared-slice-read-if1 Inv-loop μ-loop
+shared-slice-read-if1 c = search needs
 
 returns : tie.Need-returns Inv-loop μ-loop
 returns c = search (find-here, needs)
@@ -46,9 +43,8 @@ find-spec =
     Inv-loop
     μ-loop
     loop-holds
-    mul-state
-    element-copy-out-state
-    same-requires
+    mul-if1
+    shared-slice-read-if1
     returns
     add-i
     loop-less

@@ -1,0 +1,124 @@
+-- Laws of keys: a state is had back from its key; and one turn of each loop over flags and over keys, on plain values.
+use Prim.Native.Nat.{ℕ, suc, _+_, _-_, _*_, _/_, _%_, _≤_, _<_, _^_}
+use mathlib.Core.Path.{_≡_, refl, ap, _∙_}
+use mathlib.Core.Bool.{Bool, true, false}
+use mathlib.Core.List.{List, [], _∷_, append-nil}
+use native.Mathlib.Nat.{two-pow-succ, pow-le-pow-right}
+use native.Mathlib.Numerals.{add-one}
+use native.Mathlib.Omega.{arith}
+use mir.Syntax.{w32}
+use mir.Val.{Fits, boolByte}
+use lib.Dec.{eqb}
+use lib.ListN.{length, getD, drop, set, length-drop, length-set, replicate, drop-of-length-le}
+use lib.Seq.{drop-cons, take-all, take-suc-set, append-snoc}
+use borrow.Author.Count.{below-more}
+use Rattle.convention.specs.declared.Allocation.{Allocation}
+use Rattle.building.specs.Reached.{firstAllocation}
+use Rattle.building.specs.Keys.{setNumber, setOf, KeyIs, NumberFrom, SetUpTo}
+use Rattle.building.specs.Holding.{Passed, Finds}
+
+-- The number of a set is below the number of sets.
+number-most : (fs : List Bool) → setNumber fs < 2 ^ length fs
+unfolding setNumber
+number-most [] = omega arith
+number-most (true ∷ fs) = rw two-pow-succ (omega (arith, number-most fs))
+number-most (false ∷ fs) = rw two-pow-succ (omega (arith, number-most fs))
+
+number-small : (fs : List Bool) → length fs ≤ 16 → setNumber fs < 65536
+number-small fs h =
+    let sets : 2 ^ length fs ≤ 2 ^ 16 = pow-le-pow-right (omega arith) h in
+    omega (arith, number-most fs, sets)
+
+-- The set is had back from its number.
+set-back : (fs : List Bool) → setOf (length fs) (setNumber fs) ≡ fs
+unfolding setNumber setOf
+set-back [] = refl
+set-back (true ∷ fs) =
+    let odd : (1 + 2 * setNumber fs) % 2 ≡ 1 = omega arith in
+    let half : (1 + 2 * setNumber fs) / 2 ≡ setNumber fs = omega arith in
+    rw (odd, half, set-back fs)
+set-back (false ∷ fs) =
+    let even : (0 + 2 * setNumber fs) % 2 ≡ 0 = omega arith in
+    let half : (0 + 2 * setNumber fs) / 2 ≡ setNumber fs = omega arith in
+    rw (even, half, set-back fs)
+
+-- So is the state from its key.
+pub key-is : (a : Allocation) (number : ℕ) → length (a .unavailable) ≡ 16 → a .remainder < 256 → number < 65536 → number ≡ setNumber (a .unavailable)
+    → KeyIs (number + 65536 * a .remainder) a
+key-is a number long byte small e =
+    let flags : (number + 65536 * a .remainder) % 65536 ≡ number = omega arith in
+    let behind : (number + 65536 * a .remainder) / 65536 ≡ a .remainder = omega arith in
+    let rest : a .remainder % 256 ≡ a .remainder = omega arith in
+    let back : setOf 16 number ≡ a .unavailable = rw (e, ← long) (set-back (a .unavailable)) in
+    record { number = rw e; state = rw (flags, behind, rest, back) }
+
+-- 'The empty set with 0' has the key 0.
+pub first-key : KeyIs 0 firstAllocation
+unfolding setNumber setOf
+first-key = record { number = refl; state = refl }
+
+-- One more register doubles a number, and it fits.
+pub number-fits : (number : ℕ) (f : Bool) → number < 65536 → Fits w32 (2 * number + boolByte f)
+number-fits number true h = record { fits = omega arith }
+number-fits number false h = record { fits = omega arith }
+
+-- The number of a set, before register i - 1 is counted: of no register, of one more, of all.
+module _ (flags : List Bool) (long : length flags ≡ 16) where
+  pub number-begin : NumberFrom flags 16 0
+  unfolding setNumber
+  number-begin = record { within = omega arith; is = rw (drop-of-length-le flags {i = 16} (omega arith)); small = omega arith }
+
+  pub number-on : (i number : ℕ) → NumberFrom flags i number → 0 < i → NumberFrom flags (i - 1) (2 * number + boolByte (getD flags (i - 1) false))
+  unfolding setNumber
+  number-on i number from h = record { within = omega (arith, from .within); is = one; small = rw one (number-small (drop (i - 1) flags) few) }
+    where
+      few : length (drop (i - 1) flags) ≤ 16
+      few = rw length-drop (omega arith)
+
+      doubled : setNumber (drop (i - 1) flags) ≡ boolByte (getD flags (i - 1) false) + 2 * setNumber (drop (suc (i - 1)) flags)
+      doubled = ap setNumber (drop-cons flags (i - 1) false (omega (arith, from .within)))
+
+      one : 2 * number + boolByte (getD flags (i - 1) false) ≡ setNumber (drop (i - 1) flags)
+      one = let next : suc (i - 1) ≡ i = omega arith in omega (arith, from .is, rw next at doubled)
+
+  pub number-end : (i number : ℕ) → NumberFrom flags i number → i ≤ 0 → number ≡ setNumber flags
+  number-end i number from h = let all : i ≡ 0 = omega arith in rw all at (from .is)
+
+-- The set that has a number, before register i is told: none yet, one more, all.
+module _ (number : ℕ) where
+  pub set-begin : SetUpTo number 0 number (replicate 16 false)
+  set-begin = record { within = omega arith; long = refl; is = refl }
+
+  module _ (i left : ℕ) (flags : List Bool) (upTo : SetUpTo number i left flags) where
+    pub set-on : i < 16 → SetUpTo number (i + 1) (left / 2) (set flags i (eqb (left % 2) 1))
+    unfolding setOf
+    set-on h = record {
+      within = omega arith;
+      long = length-set flags i _ ∙ upTo .long;
+      is = rw (add-one, take-suc-set flags i (eqb (left % 2) 1) (omega (arith, upTo .long)), append-snoc, ← more) (upTo .is);
+    }
+      where
+        more : setOf (16 - i) left ≡ eqb (left % 2) 1 ∷ setOf (16 - suc i) (left / 2)
+        more = let one : 16 - i ≡ suc (16 - suc i) = omega arith in rw one
+
+    pub set-end : 16 ≤ i → flags ≡ setOf 16 number
+    unfolding setOf
+    set-end h =
+        let none : 16 - i ≡ 0 = omega arith in
+        rw (none, append-nil, take-all i flags (omega (arith, upTo .long))) at (upTo .is)
+
+-- Finding a key, before key i of those kept.
+module _ (states : List ℕ) (count key : ℕ) where
+  pub find-begin : Passed states count key 0
+  find-begin = record { within = omega arith; others = λ j h. absurd (omega arith) }
+
+  module _ (i : ℕ) (passed : Passed states count key i) where
+    -- It is the one; it is another; none is left.
+    pub find-here : getD states i 0 ≡ key → Finds states count key i
+    find-here e = record { passed = passed; there = λ h. e }
+
+    pub find-on : i < count → (getD states i 0 ≡ key → ⊥) → Passed states count key (i + 1)
+    find-on h other = record { within = omega arith; others = below-more (λ j. getD states j 0 ≡ key → ⊥) i (passed .others) other }
+
+    pub find-end : count ≤ i → Finds states count key i
+    find-end h = record { passed = passed; there = λ o. absurd (omega arith) }
