@@ -2,6 +2,7 @@
 use Prim.Native.Nat.{ℕ, zero, suc, _<_, _^_}
 use mathlib.Core.Path.{_≡_}
 use mathlib.Core.List.{List}
+use Rattle.convention.specs.declared.Head.{Head}
 use Rattle.convention.specs.declared.Placing.{Placing}
 use Rattle.convention.specs.declared.Building.{Building}
 use Rattle.convention.specs.declared.Judging.{Judging}
@@ -19,27 +20,22 @@ abbrev pub answerOf : Said → Answer
 answerOf said = record { number = said .number; fault = said .fault; count = said .count; value = said .value }
 
 -- The fields of `teaselram_head`: of a sheet, and of a table.
-abbrev pub sheetSays : SheetAnswer → HeadAnswer
-sheetSays a = record {
-  number = readingNo (a .reading);
-  registers = a .sheet .head .registers;
-  width = a .sheet .head .width;
-  modulus = a .sheet .head .modulus;
-  kinds = a .sheet .head .kinds;
+abbrev pub headSays : ℕ → Head → ℕ → HeadAnswer
+headSays number h states = record {
+  number = number;
+  registers = h .registers;
+  width = h .width;
+  modulus = h .modulus;
+  kinds = h .kinds;
   zero = 0;
-  states = 0;
+  states = states;
 }
 
+abbrev pub sheetSays : SheetAnswer → HeadAnswer
+sheetSays a = headSays (readingNo (a .reading)) (a .sheet .head) 0
+
 abbrev pub tableSays : TableAnswer → HeadAnswer
-tableSays a = record {
-  number = readingNo (a .reading);
-  registers = a .table .head .registers;
-  width = a .table .head .width;
-  modulus = a .table .head .modulus;
-  kinds = a .table .head .kinds;
-  zero = 0;
-  states = a .table .states;
-}
+tableSays a = headSays (readingNo (a .reading)) (a .table .head) (a .table .states)
 
 -- A row: how long it is, and where it starts in the table; or the refusal's number.
 abbrev pub rowGiven : ℕ → Said → Said

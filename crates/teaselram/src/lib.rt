@@ -2,6 +2,7 @@
 // Each answer is one of two structs of eight bytes, by value: 01's number, 0 on success, and the values that 01 names for the
 // answer; every other field is 0.
 use convention::Building;
+use convention::Head;
 use convention::Judging;
 use convention::Placing;
 use convention::Reading;
@@ -13,7 +14,7 @@ ghost use Rattle.convention.specs.Sheets.{readSheet};
 ghost use Rattle.convention.specs.Tables.{readTable};
 ghost use Rattle.convention.specs.Rules.{placeByRules, rulesMemory};
 ghost use Rattle.convention.specs.Walked.{placeByTable, tableMemory};
-ghost use Rattle.teaselram.specs.Says.{answerOf, sheetSays, tableSays, rowSays, CountFits, LengthFits, ListFits, JudgeSays};
+ghost use Rattle.teaselram.specs.Says.{answerOf, headSays, sheetSays, tableSays, rowSays, CountFits, LengthFits, ListFits, JudgeSays};
 
 #[repr(C)]
 pub struct Answer {
@@ -115,6 +116,21 @@ fn judging_says(verdict: Judging) -> Answer
     }
 }
 
+// What an answer of reading says: the head, and a table's number of states.
+fn head_says(reading: Reading, head: Head, states: u16) -> HeadAnswer
+    ensures { λ r. ⌜ r ≡ headSays (readingNo reading) head states ⌝ }
+{
+    HeadAnswer {
+        number: reading_no(reading),
+        registers: head.registers,
+        width: head.width,
+        modulus: head.modulus,
+        kinds: head.kinds,
+        zero: 0,
+        states,
+    }
+}
+
 // Reads a sheet: its head. `states` is 0.
 #[no_mangle]
 pub extern "C" fn teaselram_read_sheet(sheet: &[u8]) -> HeadAnswer
@@ -124,15 +140,7 @@ pub extern "C" fn teaselram_read_sheet(sheet: &[u8]) -> HeadAnswer
     let reading = read.reading;
     let given = read.sheet;
     let head = given.head;
-    HeadAnswer {
-        number: reading_no(reading),
-        registers: head.registers,
-        width: head.width,
-        modulus: head.modulus,
-        kinds: head.kinds,
-        zero: 0,
-        states: 0,
-    }
+    head_says(reading, head, 0)
 }
 
 // Reads a table: its head and the number of its states.
@@ -144,15 +152,7 @@ pub extern "C" fn teaselram_read_table(table: &[u8]) -> HeadAnswer
     let reading = read.reading;
     let given = read.table;
     let head = given.head;
-    HeadAnswer {
-        number: reading_no(reading),
-        registers: head.registers,
-        width: head.width,
-        modulus: head.modulus,
-        kinds: head.kinds,
-        zero: 0,
-        states: given.states,
-    }
+    head_says(reading, head, given.states)
 }
 
 // Places a list of kinds by the rules of a sheet.

@@ -1,4 +1,4 @@
--- `teaselram_read_sheet`: the reader's answer, field by field.
+-- `teaselram_read_sheet`: what the reader's answer says.
 use borrow.Author.Needs.{needs}
 use Rattle.teaselram.proofs.teaselram_read_sheet.Statement.{statement}
 use Rattle.teaselram.proofs.teaselram_read_sheet.Tie as tie
@@ -6,11 +6,11 @@ use Rattle.teaselram.proofs.teaselram_read_sheet.Tie as tie
 read-sheet-requires : tie.Need-read-sheet-requires
 read-sheet-requires c κs = search needs
 
-reading-no-requires : tie.Need-reading-no-requires
-reading-no-requires c κs = search needs
+head-says-requires : tie.Need-head-says-requires
+head-says-requires c κs = search needs
 
 returns : tie.Need-returns
-returns c = rw (c .reading-no .ensures, c .before .before .before .read-sheet .ensures)
+returns c = rw (c .head-says .ensures, c .before .before .before .read-sheet .ensures)
 
 pub teaselram-read-sheet-spec : {M : Type 1} → statement M
-teaselram-read-sheet-spec = tie.close (tie.spec read-sheet-requires reading-no-requires returns)
+teaselram-read-sheet-spec = tie.close (tie.spec read-sheet-requires head-says-requires returns)
