@@ -1,0 +1,69 @@
+-- Document 01, 'Examples to settle the reading', those outside P1 to P12 that compute at once: what building gives, the states of S, and lines. What
+-- stands here is 01's text; proofs/Computed.antt holds the definitions to it.
+use Prim.Native.Nat.{ℕ}
+use mathlib.Core.List.{List, [], _∷_, _++_, map}
+use mathlib.Core.Bool.{true, false}
+use lib.ListN.{drop, replicate}
+use Rattle.convention.specs.declared.Building.{Building}
+use Rattle.convention.specs.declared.Building.the-variants.{Built}
+use Rattle.convention.specs.declared.Judging.the-variants.{Clean}
+use Rattle.convention.specs.declared.Allocation.{Allocation}
+use Rattle.convention.specs.Numbers.{stateLimit}
+use Rattle.convention.specs.Sheets.{sheetOf}
+use Rattle.convention.specs.Explored.{Entry}
+use Rattle.convention.specs.Built.{allocations, builtStates, build}
+use Rattle.convention.specs.Judged.{Verdict}
+use Rattle.convention.specs.Program.{line}
+use Rattle.cases.specs.Cases.{simple, stacklessDouble}
+
+-- Room for any table.
+abbrev pub tableRoom : ℕ
+tableRoom = 6424
+
+-- What building gives: N and the table's length, or the number.
+pub record BuildCase : Type 0 where
+  pub sheet : List ℕ
+  pub gives : Building
+
+infix 5 _builds_
+abbrev pub _builds_ : List ℕ → Building → BuildCase
+_builds_ sheet gives = record { sheet = sheet; gives = gives }
+
+abbrev pub buildCases : List BuildCase
+buildCases =
+    (simple builds Built 12 158)
+    ∷ (stacklessDouble builds Built 12 158)
+    ∷ ((0x00 ∷ []) builds Building.Refused 1)
+    ∷ ((0x00 ∷ 0x00 ∷ []) builds Building.Refused 3)
+    ∷ ((0x00 ∷ 0x01 ∷ 0x02 ∷ []) builds Building.Refused 2)
+    ∷ []
+
+-- 'States 4 to 11 have no register free and remainders 0, 1, 4, 2, 5, 3, 6, 7.' S has four registers.
+abbrev pub full : ℕ → Allocation
+full remainder = record { unavailable = replicate 4 true ++ replicate 12 false; remainder = remainder }
+
+abbrev pub lastStates : List Allocation
+lastStates = map full (0 ∷ 1 ∷ 4 ∷ 2 ∷ 5 ∷ 3 ∷ 6 ∷ 7 ∷ [])
+
+abbrev pub statesFrom : ℕ → List ℕ → List Allocation
+statesFrom i s = map (λ (e : Entry (allocations (sheetOf s))). e .node) (drop i (builtStates stateLimit (sheetOf s)))
+
+-- The line of a sheet's table with a verdict.
+abbrev pub lineOf : List ℕ → Verdict → List ℕ
+lineOf s verdict = line (build stateLimit s tableRoom) (sheetOf s .head .kinds) (verdict .answer) (verdict .list)
+
+-- `12 3 clean`, for S. (It has too many lists to find the verdict by trying.)
+abbrev pub cleanVerdict : Verdict
+cleanVerdict = record { answer = Clean; list = [] }
+
+abbrev pub cleanLine : List ℕ
+cleanLine = 49 ∷ 50 ∷ 32 ∷ 51 ∷ 32 ∷ 99 ∷ 108 ∷ 101 ∷ 97 ∷ 110 ∷ 10 ∷ []
+
+-- `12 3 fault 1 3 0 2 2`, for S with flag 0 on double; the verdict is found by trying.
+abbrev pub faultLine : List ℕ
+faultLine =
+    49 ∷ 50 ∷ 32 ∷ 51 ∷ 32 ∷ 102 ∷ 97 ∷ 117 ∷ 108 ∷ 116 ∷ 32 ∷ 49 ∷ 32 ∷ 51 ∷ 32 ∷ 48 ∷ 32 ∷ 50 ∷ 32 ∷ 50 ∷ 10 ∷ []
+
+-- `refused 1`, for `00`.
+abbrev pub refusedOne : List ℕ
+refusedOne = 114 ∷ 101 ∷ 102 ∷ 117 ∷ 115 ∷ 101 ∷ 100 ∷ 32 ∷ 49 ∷ 10 ∷ []
