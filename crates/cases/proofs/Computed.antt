@@ -15,9 +15,9 @@ use Rattle.convention.specs.Built.{sameFlags, builtTransition, builtRow, builtB
 use Rattle.convention.specs.Judged.{eachKind, listsOf, listsUpTo, firstFault, verdictByTrying}
 use Rattle.convention.specs.Program.{digitsIn, decimal, kindFields, refusedLine, verdictFields, line}
 use Rattle.cases.specs.Cases.{simple, stacklessDouble}
-use Rattle.cases.specs.Examples.{BuildCase, buildCases, tableRoom, lastStates, statesFrom, lineOf, cleanVerdict, cleanLine, faultLine, refusedOne}
+use Rattle.cases.specs.Examples.{BuildCase, buildCases, tableLength, lastStates, statesFrom, lineOf, cleanVerdict, cleanLine, faultLine, refusedOne}
 
-pub builds-hold : map (λ (c : BuildCase). build stateLimit (c .sheet) tableRoom) buildCases ≡ map (λ (c : BuildCase). c .gives) buildCases
+pub builds-hold : map (λ (c : BuildCase). build stateLimit (c .sheet) tableLength) buildCases ≡ map (λ (c : BuildCase). c .gives) buildCases
 unfolding headOf headNo shapeNo startsNo sheetKindNo sheetKindOf sheetKindsNo sheetKindsOf sheetKindsLength sheetNo sheetOf leastOffset freeRun markRuns leftBefore rulesPlace rulesAfter blocks number meet metFrom through met sameFlags builtTransition builtRow builtBody tableOfStates buildNo build
 builds-hold = refl
 

@@ -16,9 +16,9 @@ use Rattle.convention.specs.Judged.{Verdict}
 use Rattle.convention.specs.Program.{line}
 use Rattle.cases.specs.Cases.{simple, stacklessDouble}
 
--- Room for any table.
-abbrev pub tableRoom : ℕ
-tableRoom = 6424
+-- 'the table is 158 bytes': the room that building is given.
+abbrev pub tableLength : ℕ
+tableLength = 158
 
 -- What building gives: N and the table's length, or the number.
 pub record BuildCase : Type 0 where
@@ -31,8 +31,8 @@ _builds_ sheet gives = record { sheet = sheet; gives = gives }
 
 abbrev pub buildCases : List BuildCase
 buildCases =
-    (simple builds Built 12 158)
-    ∷ (stacklessDouble builds Built 12 158)
+    (simple builds Built 12 tableLength)
+    ∷ (stacklessDouble builds Built 12 tableLength)
     ∷ ((0x00 ∷ []) builds Building.Refused 1)
     ∷ ((0x00 ∷ 0x00 ∷ []) builds Building.Refused 3)
     ∷ ((0x00 ∷ 0x01 ∷ 0x02 ∷ []) builds Building.Refused 2)
@@ -50,7 +50,7 @@ statesFrom i s = map (λ (e : Entry (allocations (sheetOf s))). e .node) (drop i
 
 -- The line of a sheet's table with a verdict.
 abbrev pub lineOf : List ℕ → Verdict → List ℕ
-lineOf s verdict = line (build stateLimit s tableRoom) (sheetOf s .head .kinds) (verdict .answer) (verdict .list)
+lineOf s verdict = line (build stateLimit s tableLength) (sheetOf s .head .kinds) (verdict .answer) (verdict .list)
 
 -- `12 3 clean`, for S. (It has too many lists to find the verdict by trying.)
 abbrev pub cleanVerdict : Verdict
