@@ -2,13 +2,13 @@
 use Prim.Native.Nat.{ℕ, zero, suc, _+_, _*_, _/_, _%_, _^_, _≤_, _<_}
 use mathlib.Core.Path.{_≡_, refl, sym, _∙_}
 use mathlib.Core.Logic.{_⊎_, inl, inr}
-use mathlib.Core.List.{List, [], _∷_, _++_, map, append-assoc}
+use mathlib.Core.List.{List, [], _∷_, _++_, append-assoc}
 use native.Mathlib.Nat.{add-zero, add-assoc, mul-le-mul-left, div-div-eq-div-mul, eq-or-lt-of-le, le-of-suc-le-suc}
 use native.Mathlib.Omega.{arith}
 use lib.ListN.{length, getD, set, take, drop, length-append, length-take, length-drop, take-append-drop}
 use lib.Seq.{length-take-le, take-all, take-append-seam, drop-append-seam, take-append-le, drop-append-le, getD-take, getD-drop, drop-drop, take-add}
 use lib.Seq.{take-at, drop-at, sets, sets-eq}
-use Rattle.convention.specs.Bytes.{twoBytes, fourBytes, written, blocks}
+use Rattle.convention.specs.Bytes.{twoBytes, written, blocks}
 use Rattle.convention.specs.Fields.{lengthField}
 
 -- Two bytes say the number that they were made from, as a length field too, whatever follows.
@@ -22,21 +22,6 @@ length-read x rest h = two-read x h
 pub four-read : (x : ℕ) → x < 2 ^ 32
     → 2 ^ 24 * (x / 2 ^ 24 % 256) + 2 ^ 16 * (x / 2 ^ 16 % 256) + 256 * (x / 256 % 256) + x % 256 ≡ x
 four-read x h = rw (← div-div-eq-div-mul x (2 ^ 16) 256, ← div-div-eq-div-mul x 256 256) (omega arith)
-
-pub four-inj : (x y : ℕ) → x < 2 ^ 32 → y < 2 ^ 32 → fourBytes x ≡ fourBytes y → x ≡ y
-four-inj x y h k e = cc (four-read x h, four-read y k)
-
--- Each is a byte.
-small : (l : List ℕ) (i : ℕ) → getD (map (λ y. y % 256) l) i 0 < 256
-small [] i = omega arith
-small (y ∷ l) zero = omega arith
-small (y ∷ l) (suc i) = small l i
-
-pub two-small : (x i : ℕ) → getD (twoBytes x) i 0 < 256
-two-small x i = small (x / 256 ∷ x ∷ []) i
-
-pub four-small : (x i : ℕ) → getD (fourBytes x) i 0 < 256
-four-small x i = small (x / 2 ^ 24 ∷ x / 2 ^ 16 ∷ x / 256 ∷ x ∷ []) i
 
 -- Writing keeps the length.
 pub length-written : (d : List ℕ) (at : ℕ) (bs : List ℕ) → at + length bs ≤ length d → length (written d at bs) ≡ length d

@@ -416,10 +416,6 @@ module _ (X : Automaton) (D : Decides X) (n : ℕ) where
       let c = parents (suc i) (omega arith) (omega arith) in
       rw (← (g .entry-stays (suc i) h), path-agrees l g t u (entry X (met X n) (suc i) .parent) (omega arith) (omega arith) (omega arith))
 
-  -- A path stays what it was when its entry was met.
-  pub path-stays : (l : List (Entry X)) → Grows X l (met X n) → (i : ℕ) → i < length l → path X (met X n) i ≡ path X l i
-  path-stays l g i h = path-agrees l g i i i (omega arith) (omega arith) h
-
   -- A path is the parent's path, and then the kind.
   pub path-suc : (i : ℕ) → 0 < i → i < length (met X n)
       → path X (met X n) i ≡ path X (met X n) (entry X (met X n) i .parent) ++ entry X (met X n) i .kind ∷ []

@@ -36,10 +36,6 @@ module _ (M : Steps) (s : M .State) (ks : List ℕ) (i : ℕ) where
   unfolding stateFrom
   state-end h = rw (drop-of-length-le ks h)
 
-  pub places-end : length ks ≤ i → recordsOf (placesFrom M s (drop i ks)) ≡ []
-  unfolding placesFrom recordsOf
-  places-end h = rw (drop-of-length-le ks h)
-
   -- An argument without a fault: fault and stop are those of the walk behind it.
   pub fault-turn : i < length ks → M .fault s (getD ks i 0) ≡ 0
       → faultFrom M s (drop i ks) ≡ faultFrom M (M .after s (getD ks i 0)) (drop (i + 1) ks)

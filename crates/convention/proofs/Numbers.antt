@@ -1,5 +1,5 @@
 -- Laws of answer numbers: what a chain of tests, one test and one field tell of a number, and what a number tells of them.
-use Prim.Native.Nat.{ℕ, zero, suc, _≤_, _<_}
+use Prim.Native.Nat.{ℕ, zero, suc, _<_}
 use mathlib.Core.Path.{_≡_, refl, sym, _∙_}
 use mathlib.Core.Bool.{Bool, true, false}
 use mathlib.Core.List.{List}
@@ -7,7 +7,7 @@ use native.Mathlib.Nat.{suc-ne-zero}
 use native.Mathlib.Omega.{arith}
 use lib.Dec.{ltb}
 use lib.ListN.{length}
-use borrow.Author.Tests.{ltb-true, lt-ltb, le-ltb}
+use borrow.Author.Tests.{ltb-true, lt-ltb}
 use Rattle.convention.specs.declared.Reading.{Reading}
 use Rattle.convention.specs.Numbers.{orElse, unless, reading, readingNo}
 use Rattle.convention.specs.Fields.{fieldNo}
@@ -43,18 +43,12 @@ unless-zero false n h e = absurd (omega arith)
 pub unless-true : (b : Bool) (n : ℕ) → b ≡ true → unless b n ≡ 0
 unless-true b n e = rw e
 
-pub unless-false : (b : Bool) (n : ℕ) → b ≡ false → unless b n ≡ n
-unless-false b n e = rw e
-
 -- One field: 3 where its byte is missing, else what the test of its value gives.
 pub field-zero : (s : List ℕ) (k : ℕ) (right : Bool) (wrong : ℕ) → 0 < wrong → fieldNo s k right wrong ≡ 0
     → (k < length s) × (right ≡ true)
 field-zero s k right wrong h e =
     let both = or-zero (unless (ltb k (length s)) 3) (unless right wrong) e in
     (ltb-true k (length s) (unless-zero (ltb k (length s)) 3 (omega arith) (both .0)), unless-zero right wrong h (both .1))
-
-pub field-missing : (s : List ℕ) (k : ℕ) (right : Bool) (wrong : ℕ) → length s ≤ k → fieldNo s k right wrong ≡ 3
-field-missing s k right wrong h = rw (le-ltb k (length s) h)
 
 pub field-here : (s : List ℕ) (k : ℕ) (right : Bool) (wrong : ℕ) → k < length s → fieldNo s k right wrong ≡ unless right wrong
 field-here s k right wrong h = rw (lt-ltb k (length s) h)

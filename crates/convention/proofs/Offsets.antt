@@ -105,9 +105,6 @@ all-moduli test t a =
 pub width-pos : (w : ℕ) → isWidth w ≡ true → 0 < w
 width-pos w e = ltb-true 0 w (all-widths (ltb 0) refl w e)
 
-pub width-most : (w : ℕ) → isWidth w ≡ true → w ≤ 8
-width-most w e = leb-true w 8 (all-widths (λ k. leb k 8) refl w e)
-
 pub modulus-pos : (a : ℕ) → isModulus a ≡ true → 0 < a
 modulus-pos a e = ltb-true 0 a (all-moduli (ltb 0) refl a e)
 
@@ -130,9 +127,6 @@ needed-room w size h = omega (arith, lt-div-mul-add {a = size + w - 1} h)
 pub needed-least : (w size k : ℕ) → 0 < w → k < registersNeeded w size → k * w < size
 needed-least w size k h l = omega (arith, le-div-iff-mul-le h .0 l)
 
--- They are no more than the size's bytes, and so than any bound of the size; and there is one where there is a byte.
+-- They are no more than the size's bytes, and so than any bound of the size.
 pub needed-most : (w size n : ℕ) → 0 < w → size ≤ n → registersNeeded w size ≤ n
 needed-most w size n h l = le-of-suc-le-suc (div-lt-iff-lt-mul h .1 (omega (arith, le-mul-of-pos-right n h)))
-
-pub needed-pos : (w size : ℕ) → 0 < w → 0 < size → 0 < registersNeeded w size
-needed-pos w size h l = le-div-iff-mul-le h .1 (omega arith)

@@ -11,13 +11,13 @@ use lib.Seq.{length-take-le, getD-take, getD-drop}
 use borrow.Author.Tests.{leb-true}
 use Rattle.convention.specs.declared.Head.{Head}
 use Rattle.convention.specs.declared.SheetKind.{SheetKind}
-use Rattle.convention.specs.Numbers.{orElse, readingNo}
+use Rattle.convention.specs.Numbers.{orElse}
 use Rattle.convention.specs.Fields.{fieldNo, lengthNo, versionNo, registersAt, widthAt, modulusAt, kindsCountAt, kindsAt, headOf, headNo}
 use Rattle.convention.specs.Fields.{openingNo, sizeAt, alignmentAt, shapeNo}
 use Rattle.convention.specs.Sheets.{flagsAt, triesAt, startsAt, registersNeeded, startsNo, sheetKindLength, sheetKindNo, sheetKindOf}
 use Rattle.convention.specs.Sheets.{sheetKindsNo, sheetKindsOf, sheetKindsLength, sheetEnd, sheetNo, blankKind, sheetOf, readSheet}
 use Rattle.convention.specs.Promised.{HeadRead, ShapeRead, SheetKindRead, SheetRead}
-use Rattle.convention.proofs.Numbers.{or-zero, unless-zero, field-zero, reading-no}
+use Rattle.convention.proofs.Numbers.{or-zero, unless-zero, field-zero}
 
 -- Fields of w bytes one behind the other, each tested by `one` and `left` of them by `run`: where `run` gives no number, none does.
 pub fields-zero : (w : ℕ) (one : ℕ → ℕ) (run : ℕ → ℕ → ℕ) → ((at left : ℕ) → run at (suc left) ≡ orElse (one at) (run (at + w) left))
@@ -232,11 +232,7 @@ module _ (s : List ℕ) (e : sheetNo s ≡ 0) where
       let kinds = kinds-most (headOf s) (drop kindsAt s) (headOf s .kinds) (sheet-tests .kinds) in
       omega (arith, sheet-whole, head-read s (sheet-tests .head) .kinds, kinds)
 
--- The reader's answer: the number, and the sheet where it is 0.
-pub sheet-number : (s : List ℕ) → readingNo (readSheet s .reading) ≡ sheetNo s
-unfolding readSheet
-sheet-number s = reading-no (sheetNo s)
-
+-- The reader's answer: the sheet where the number is 0.
 pub sheet-given : (s : List ℕ) → sheetNo s ≡ 0 → readSheet s .sheet ≡ sheetOf s
 unfolding readSheet
 sheet-given s e = rw e

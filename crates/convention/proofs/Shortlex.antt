@@ -103,11 +103,6 @@ pub nil-before : (a : List ℕ) (k : ℕ) → Before [] (a ++ k ∷ [])
 unfolding Before
 nil-before a k = inl (simp length-append (omega arith))
 
--- A list is before what goes on from it.
-pub snoc-after : (a : List ℕ) (k : ℕ) → Before a (a ++ k ∷ [])
-unfolding Before
-snoc-after a k = inl (simp length-append (omega arith))
-
 -- Not after what is before is before.
 pub not-after-before : (a b c : List ℕ) → NotAfter a b → Before b c → Before a c
 not-after-before a b c (inl e) h = rw e h

@@ -4,8 +4,7 @@ use mathlib.Core.Path.{_≡_, refl, _∙_}
 use mathlib.Core.Logic.{inl, inr}
 use mathlib.Core.Bool.{Bool, true, _&&_, cond, and-eq-true-iff}
 use mathlib.Core.List.{List}
-use native.Mathlib.Nat.{add-assoc, mul-assoc, mul-le-mul-left, le-refl, le-of-eq, eq-zero-or-pos}
-use native.Mathlib.Decide.{decLe}
+use native.Mathlib.Nat.{add-assoc, mul-assoc, mul-le-mul-left, le-refl, eq-zero-or-pos}
 use native.Mathlib.Omega.{arith}
 use lib.Dec.{ltb, leb, eqb, lit<}
 use lib.ListN.{length, getD, take, drop, length-take, length-drop, List·getD-append}
@@ -31,16 +30,7 @@ module _ (h : Head) (states : ℕ) (x : Transition) (e : isTransition h states x
   transition-place : 0 < x .form → (placeRight h x ≡ true) × (ltb (x .next) states ≡ true)
   transition-place f = and-eq-true-iff (placeRight h x) (ltb (x .next) states) .0 (rw (ne-eqb (x .form) 0 (omega arith)) at e)
 
-  -- A transition as 01 allows it: its form; no place; registers; stack; the next state.
-  pub transition-form : x .form ≤ 2
-  transition-form =
-      elim (decLe (x .form) 1) [
-        | yes l ↦ omega arith
-        | no l ↦
-            let stack = and-eq-true-iff _ _ .0 (rw (ne-eqb (x .form) 1 (omega arith)) at (transition-place (omega arith) .0)) in
-            le-of-eq (eqb-true (x .form) 2 (stack .0))
-      ]
-
+  -- A transition as 01 allows it: no place; registers; stack; the next state.
   pub transition-none : x .form ≡ 0 → (x .a ≡ 0) × (x .b ≡ 0) × (x .next ≡ 0)
   transition-none f =
       let c = and-eq-true-iff _ _ .0 (rw f at e) in

@@ -95,10 +95,6 @@ module _ (limit : ℕ) (t : List ℕ) (read : TableRead limit (tableOf t) t) whe
     first = λ ks′ f. not-after-strict ks ks′ (least-not-after ks l ks′ f);
   }
 
-  -- and it has at most 2N kinds.
-  pub least-short : (upTo : ℕ) (ks : List ℕ) → LeastBelow (tableOf t) t upTo ks → length ks ≤ judgeRoom t
-  least-short upTo ks l = let (r, i, k, h, e) = l .found in rw e (hit-short limit (tableOf t) t read r i k h)
-
 -- The first faulty list has its fault at its last kind.
 pub last : (t : List ℕ) (fault : ℕ) (ks : List ℕ) → FirstFaulty t fault ks → stopOf t ks + 1 ≡ length ks
 unfolding FaultyList
