@@ -14,12 +14,12 @@ use Rattle.convention.specs.declared.Building.{Building}
 use Rattle.convention.specs.declared.Building.the-variants.{Built}
 use Rattle.convention.specs.Numbers.{stateLimit, reading}
 use Rattle.convention.specs.Bytes.{written}
-use Rattle.convention.specs.Sheets.{sheetNo, sheetOf, readSheet}
+use Rattle.convention.specs.Sheets.{readSheet}
 use Rattle.convention.specs.Tables.{rowAt}
 use Rattle.convention.specs.Built.{builtStates, builtTable, buildNo, buildAnswer, build, buildWrites, buildMemory}
 use Rattle.convention.specs.Promised.{SheetRead}
-use Rattle.convention.proofs.Numbers.{read-number, refused-number, refused-some, or-here}
-use Rattle.convention.proofs.Sheets.{sheet-given}
+use Rattle.convention.proofs.Numbers.{or-here}
+use Rattle.convention.proofs.Sheets.{sheet-right, sheet-is, sheet-refused, sheet-wrong}
 use Rattle.building.specs.declared.keys.Met.{Met}
 use Rattle.building.specs.Holding.{Holds}
 use Rattle.building.specs.Writing.{TableAsks, BuildingIs}
@@ -68,39 +68,26 @@ module _ (sheet : Sheet) (states : List ℕ) (met : Met) (before : List ℕ) (ho
 
 -- The reader's answer.
 module _ (s : List ℕ) (a : SheetAnswer) (ea : a ≡ readSheet s) where
-  number : reading (sheetNo s) ≡ a .reading
-  unfolding readSheet
-  number = rw ea
-
   -- It read the sheet: the answer is that of building its table.
   module _ (e : a .reading ≡ Reading.Read) (out : List ℕ) (r : Building) (after : List ℕ) (is : BuildingIs (a .sheet) out r after) where
-    right : sheetNo s ≡ 0
-    right = read-number (sheetNo s) (number ∙ e)
-
-    sheet-is : a .sheet ≡ sheetOf s
-    sheet-is = rw ea (sheet-given s right)
-
     pub built-answer : r ≡ build stateLimit s (length out)
     unfolding build buildNo
-    built-answer = rw (right, ← sheet-is) (is .answers)
+    built-answer = rw (sheet-right s a ea e, ← sheet-is s a ea e) (is .answers)
 
     pub built-memory : after ≡ buildMemory stateLimit s out
     unfolding buildMemory buildNo
-    built-memory = rw (right, ← sheet-is) (is .memory)
+    built-memory = rw (sheet-right s a ea e, ← sheet-is s a ea e) (is .memory)
 
   -- It refused the sheet.
   module _ (n : ℕ) (e : a .reading ≡ Reading.Refused n) (out : List ℕ) where
-    some : 0 < sheetNo s
-    some = refused-some (sheetNo s) n (number ∙ e)
-
     here : buildNo stateLimit s (length out) ≡ n
     unfolding buildNo
-    here = or-here _ _ some ∙ refused-number (sheetNo s) n (number ∙ e)
+    here = rw (sheet-refused s a ea n e) (or-here n _ (sheet-wrong s a ea n e))
 
     pub refused-answer : Building.Refused n ≡ build stateLimit s (length out)
     unfolding build
-    refused-answer = rw here (sym (number-answers n _ _ (rw (refused-number (sheetNo s) n (number ∙ e)) at some)))
+    refused-answer = rw here (sym (number-answers n _ _ (sheet-wrong s a ea n e)))
 
     pub refused-memory : out ≡ buildMemory stateLimit s out
     unfolding buildMemory
-    refused-memory = rw here (sym (number-leaves n _ out (rw (refused-number (sheetNo s) n (number ∙ e)) at some)))
+    refused-memory = rw here (sym (number-leaves n _ out (sheet-wrong s a ea n e)))

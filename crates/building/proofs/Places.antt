@@ -1,14 +1,14 @@
 -- What the laws of built tables need to know of a place that the rules give: it is a free run, of as many registers as the kind needs and within the sheet's; or
 -- the least offset, with the kind's size; or nothing. And of the flags behind a step: what was unavailable stays so.
-use Prim.Native.Nat.{ℕ, zero, suc, _+_, _≤_, _<_}
+use Prim.Native.Nat.{ℕ, _+_, _≤_, _<_}
 use mathlib.Core.Path.{_≡_, refl, sym, _∙_}
 use mathlib.Core.Logic.{inl, inr}
 use mathlib.Core.Bool.{Bool, true, false, true≢false}
-use mathlib.Core.List.{List, [], _∷_}
+use mathlib.Core.List.{List}
 use native.Mathlib.Decide.{decLe, decLt}
 use native.Mathlib.Omega.{arith}
-use lib.ListN.{length, getD, set, replicate, length-take}
-use lib.Seq.{getD-take, length-sets}
+use lib.ListN.{length, getD, set, length-take}
+use lib.Seq.{getD-take}
 use borrow.Author.Tests.{ltb-true}
 use Rattle.convention.specs.declared.Head.{Head}
 use Rattle.convention.specs.declared.SheetKind.{SheetKind}
@@ -16,20 +16,13 @@ use Rattle.convention.specs.declared.ByRules.{ByRules}
 use Rattle.convention.specs.declared.Placement.{Placement}
 use Rattle.convention.specs.declared.Placement.the-variants.{Registers, Stack, Nowhere}
 use Rattle.convention.specs.Sheets.{mayUseStack, isClosing}
-use Rattle.convention.specs.Rules.{freeRun, markRun, markRuns, leftBefore, startsOf, needed, leftOf, fits, startTaken, stackBytes, stackOffset}
+use Rattle.convention.specs.Rules.{freeRun, markRun, startsOf, needed, leftOf, fits, startTaken, stackBytes, stackOffset}
 use Rattle.convention.specs.Rules.{rulesPlace, placeTaken, rulesAfter}
 use Rattle.convention.specs.Promised.{SheetKindRead}
 use Rattle.convention.proofs.Runs.{either, free-each, free-some, mark-in, mark-out}
-
--- The start that is taken has a free run.
-left-free : (taken : List Bool) (count : ℕ) (starts : List ℕ) → leftBefore taken count starts < length starts
-    → freeRun taken (getD starts (leftBefore taken count starts) 0) count ≡ true
-unfolding leftBefore
-left-free taken count [] h = absurd (omega arith)
-left-free taken count (s ∷ starts) h = elim (either (freeRun taken s count)) [
-  | inl t ↦ rw (t, leftBefore) t
-  | inr t ↦ rw (t, leftBefore) (left-free taken count starts (omega (arith, rw (t, leftBefore) at h)))
-]
+use Rattle.places.proofs.Apart.{mark-stays, place-length}
+use Rattle.placing.proofs.Search.{left-free}
+use Rattle.placing.proofs.Given.{closed-length, closed-stays}
 
 -- The run of the start that is taken lies within the sheet's registers.
 taken-fits : (h : Head) (kind : SheetKind) (taken : List Bool) → SheetKindRead h kind → leftOf (h .width) kind taken < length (startsOf kind)
@@ -67,33 +60,6 @@ free-within taken taken′ first count h e = elim (either (freeRun taken first c
       absurd (true≢false (sym (h (r .0) (r .3)) ∙ free-each taken′ first count e (r .0) (r .1) (r .2)))
 ]
 
--- Marking takes nothing out of a set, and keeps the number of registers.
-set-within : (taken : List Bool) (i : ℕ) → Within taken (set taken i true)
-set-within [] i r e = e
-set-within (x ∷ taken) zero zero e = refl
-set-within (x ∷ taken) zero (suc r) e = e
-set-within (x ∷ taken) (suc i) zero e = e
-set-within (x ∷ taken) (suc i) (suc r) e = set-within taken i r e
-
-mark-within : (taken : List Bool) (first count : ℕ) → Within taken (markRun taken first count)
-mark-within taken first zero r e = e
-mark-within taken first (suc count) r e = mark-within (set taken first true) (suc first) count r (set-within taken first r e)
-
-marks-within : (taken : List Bool) (count : ℕ) (starts : List ℕ) → Within taken (markRuns taken count starts)
-unfolding markRuns
-marks-within taken count [] r e = e
-marks-within taken count (s ∷ starts) r e = marks-within (markRun taken s count) count starts r (mark-within taken s count r e)
-
-marks-length : (taken : List Bool) (count : ℕ) (starts : List ℕ) → length (markRuns taken count starts) ≡ length taken
-unfolding markRuns
-marks-length taken count [] = refl
-marks-length taken count (s ∷ starts) = marks-length (markRun taken s count) count starts ∙ length-sets taken s (replicate count true)
-
-taken-length : (place : Placement) (taken : List Bool) → length (placeTaken place taken) ≡ length taken
-taken-length (Registers first count) taken = length-sets taken (first .0) (replicate count true)
-taken-length (Stack offset count) taken = refl
-taken-length Nowhere taken = refl
-
 -- A place adds the same registers to both sets.
 pub taken-within : (h : Head) (kind : SheetKind) (s : ByRules) (place : Placement) (taken : List Bool) → Gives h kind s place
     → h .registers ≤ length (s .unavailable) → Within taken (s .unavailable) → Within (placeTaken place taken) (placeTaken place (s .unavailable))
@@ -106,7 +72,7 @@ taken-within h kind s (Registers first count) taken g n within r e = elim (decLe
 ]
   where
     outside : (first .0 ≤ r → r < first .0 + count → ⊥) → getD (markRun (s .unavailable) (first .0) count) r false ≡ true
-    outside o = mark-within (s .unavailable) (first .0) count r (within r (sym (mark-out taken (first .0) count r o) ∙ e))
+    outside o = mark-stays (s .unavailable) (first .0) count r (within r (sym (mark-out taken (first .0) count r o) ∙ e))
 taken-within h kind s (Stack offset count) taken g n within r e = within r e
 taken-within h kind s Nowhere taken g n within r e = within r e
 
@@ -115,11 +81,9 @@ module _ (w : ℕ) (kind : SheetKind) (s : ByRules) where
   -- The registers of its place are unavailable, and those that were.
   pub after-within : Within (placeTaken (rulesPlace w kind s) (s .unavailable)) (rulesAfter w kind s .unavailable)
   unfolding rulesAfter
-  after-within = elim (either (isClosing kind)) [ inl t ↦ rw t (marks-within _ _ _) | inr t ↦ rw t (λ r e. e) ]
+  after-within r e = closed-stays (isClosing kind) _ _ _ r e
 
   -- There are as many registers as before.
   pub after-length : length (rulesAfter w kind s .unavailable) ≡ length (s .unavailable)
   unfolding rulesAfter
-  after-length =
-      let taken = taken-length (rulesPlace w kind s) (s .unavailable) in
-      elim (either (isClosing kind)) [ inl t ↦ rw t (marks-length _ _ _ ∙ taken) | inr t ↦ rw t taken ]
+  after-length = closed-length (isClosing kind) _ _ _ ∙ place-length (rulesPlace w kind s) (s .unavailable)

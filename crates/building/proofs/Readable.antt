@@ -37,7 +37,7 @@ use Rattle.building.proofs.Places.{Gives, rules-give}
 use Rattle.building.proofs.Passing.{field-pass, length-pass, table-pass}
 
 -- A transition takes four bytes, and they say the transition that is made of the place.
-made-length : (modulus : ℕ) (place : Placement) (next : ℕ) → length (transitionBytes modulus place next) ≡ transitionLength
+pub made-length : (modulus : ℕ) (place : Placement) (next : ℕ) → length (transitionBytes modulus place next) ≡ transitionLength
 made-length modulus (Registers first count) next = refl
 made-length modulus (Stack offset count) next = refl
 made-length modulus Nowhere next = refl

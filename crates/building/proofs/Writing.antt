@@ -13,7 +13,6 @@ use Rattle.convention.specs.declared.Head.{Head}
 use Rattle.convention.specs.declared.SheetKind.{SheetKind}
 use Rattle.convention.specs.declared.Sheet.{Sheet}
 use Rattle.convention.specs.declared.Placement.{Placement}
-use Rattle.convention.specs.declared.Placement.the-variants.{Registers, Stack, Nowhere}
 use Rattle.convention.specs.declared.Allocation.{Allocation}
 use Rattle.convention.specs.Bytes.{written, blocks}
 use Rattle.convention.specs.Numbers.{stateLimit}
@@ -27,7 +26,7 @@ use Rattle.convention.proofs.Bytes.{length-written, written-nothing, written-se
 use Rattle.building.specs.Keys.{stateOf}
 use Rattle.building.specs.Holding.{Finds, LeadIs}
 use Rattle.building.specs.Writing.{StatesKept, CellAsks, CellIs, TableAsks, RowAsks, KindsAsk, openingBytes, FrontAsks, frontBytes, BlocksLeft}
-use Rattle.building.proofs.Readable.{built-length}
+use Rattle.building.proofs.Readable.{made-length, built-length}
 use Rattle.building.proofs.Leading.{lead-asks, lead-of}
 use Rattle.building.proofs.Meeting.{found-number, kept-node}
 
@@ -102,12 +101,7 @@ module _ (sheet : Sheet) (k : ℕ) (before out : List ℕ) (asks : KindsAsk shee
   kind-on = blocks-on (builtKind sheet) kindsAt _ before tableKindLength k out _ (λ i. refl) left h (omega (arith, asks .there))
       (stored-two out (7 + 2 * k) _ _ (omega (arith, asks .there, left .long)))
 
--- How long a transition and a row are.
-transition-four : (modulus : ℕ) (place : Placement) (next : ℕ) → length (transitionBytes modulus place next) ≡ transitionLength
-transition-four modulus (Registers first count) next = refl
-transition-four modulus (Stack offset count) next = refl
-transition-four modulus Nowhere next = refl
-
+-- How long a row is.
 module _ (sheet : Sheet) where
   abbrev m : ℕ
   m = sheet .head .kinds
@@ -117,7 +111,7 @@ module _ (sheet : Sheet) where
 
   cell-wide : (a : Allocation) (k : ℕ) → length (builtTransition sheet l a k) ≡ transitionLength
   unfolding builtTransition
-  cell-wide a k = transition-four (sheet .head .modulus) (byRules sheet .place (fromAllocation a) k) _
+  cell-wide a k = made-length (sheet .head .modulus) (byRules sheet .place (fromAllocation a) k) _
 
   row-wide : (i : ℕ) → length (builtRow sheet l i) ≡ rowLength m
   unfolding builtRow

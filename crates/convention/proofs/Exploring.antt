@@ -9,22 +9,18 @@ use native.Mathlib.Decide.{le-ind}
 use native.Mathlib.Numerals.{add-one}
 use native.Mathlib.Omega.{arith}
 use mathlib.Core.Path.{_≡_, refl, sym, ap, _∙_}
-use mathlib.Core.Bool.{Bool, true, false, true≢false}
+use mathlib.Core.Bool.{true, false, true≢false}
 use mathlib.Core.Logic.{_⊎_, inl, inr, ⊎-elim, _↔_}
 use mathlib.Core.List.{List, [], _∷_, _++_, map, append-nil}
 use lib.Dec.{ltb}
 use lib.ListN.{length, getD, length-append, length-map, List·getD-append, List·getD-map}
 use lib.Seq.{append-snoc, getD-append-seam}
 use borrow.Author.Tests.{ltb-true, ltb-false, le-ltb}
+use Rattle.convention.proofs.Runs.{either}
 use Rattle.convention.proofs.Pigeonhole.{pigeonhole}
 use Rattle.convention.proofs.Shortlex.{before-snoc, snoc-earlier, nil-before, not-after-trans, not-after-snoc}
 use Rattle.convention.specs.Orders.{Before, NotAfter}
 use Rattle.convention.specs.Explored.{Automaton, Entry, firstEntry, entry, number, meet, metFrom, through, met, pathFrom, path, Leads}
-
--- A test's value.
-either : (b : Bool) → (b ≡ true) ⊎ (b ≡ false)
-either true = inl refl
-either false = inr refl
 
 -- ---- numbers
 

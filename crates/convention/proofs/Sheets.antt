@@ -11,13 +11,15 @@ use lib.Seq.{length-take-le, getD-take, getD-drop}
 use borrow.Author.Tests.{leb-true}
 use Rattle.convention.specs.declared.Head.{Head}
 use Rattle.convention.specs.declared.SheetKind.{SheetKind}
-use Rattle.convention.specs.Numbers.{orElse}
+use Rattle.convention.specs.declared.Reading.{Reading}
+use Rattle.convention.specs.declared.SheetAnswer.{SheetAnswer}
+use Rattle.convention.specs.Numbers.{orElse, reading}
 use Rattle.convention.specs.Fields.{fieldNo, lengthNo, versionNo, registersAt, widthAt, modulusAt, kindsCountAt, kindsAt, headOf, headNo}
 use Rattle.convention.specs.Fields.{openingNo, sizeAt, alignmentAt, shapeNo}
 use Rattle.convention.specs.Sheets.{flagsAt, triesAt, startsAt, registersNeeded, startsNo, sheetKindLength, sheetKindNo, sheetKindOf}
 use Rattle.convention.specs.Sheets.{sheetKindsNo, sheetKindsOf, sheetKindsLength, sheetEnd, sheetNo, blankKind, sheetOf, readSheet}
 use Rattle.convention.specs.Promised.{HeadRead, ShapeRead, SheetKindRead, SheetRead}
-use Rattle.convention.proofs.Numbers.{or-zero, unless-zero, field-zero}
+use Rattle.convention.proofs.Numbers.{or-zero, unless-zero, field-zero, read-number, refused-number, refused-some}
 
 -- Fields of w bytes one behind the other, each tested by `one` and `left` of them by `run`: where `run` gives no number, none does.
 pub fields-zero : (w : ℕ) (one : ℕ → ℕ) (run : ℕ → ℕ → ℕ) → ((at left : ℕ) → run at (suc left) ≡ orElse (one at) (run (at + w) left))
@@ -232,7 +234,21 @@ module _ (s : List ℕ) (e : sheetNo s ≡ 0) where
       let kinds = kinds-most (headOf s) (drop kindsAt s) (headOf s .kinds) (sheet-tests .kinds) in
       omega (arith, sheet-whole, head-read s (sheet-tests .head) .kinds, kinds)
 
--- The reader's answer: the sheet where the number is 0.
-pub sheet-given : (s : List ℕ) → sheetNo s ≡ 0 → readSheet s .sheet ≡ sheetOf s
-unfolding readSheet
-sheet-given s e = rw e
+-- What the reader's answer tells: where it read the sheet, the sheet; where it refused, the number.
+module _ (s : List ℕ) (a : SheetAnswer) (ea : a ≡ readSheet s) where
+  sheet-reading : reading (sheetNo s) ≡ a .reading
+  unfolding readSheet
+  sheet-reading = rw ea
+
+  pub sheet-right : a .reading ≡ Reading.Read → sheetNo s ≡ 0
+  sheet-right e = read-number (sheetNo s) (sheet-reading ∙ e)
+
+  pub sheet-is : a .reading ≡ Reading.Read → a .sheet ≡ sheetOf s
+  unfolding readSheet
+  sheet-is e = rw (ea, sheet-right e)
+
+  pub sheet-refused : (n : ℕ) → a .reading ≡ Reading.Refused n → sheetNo s ≡ n
+  sheet-refused n e = refused-number (sheetNo s) n (sheet-reading ∙ e)
+
+  pub sheet-wrong : (n : ℕ) → a .reading ≡ Reading.Refused n → 0 < n
+  sheet-wrong n e = rw (← sheet-refused n e) (refused-some (sheetNo s) n (sheet-reading ∙ e))

@@ -13,13 +13,15 @@ use borrow.Author.Tests.{ltb-true, leb-true, eqb-true, ne-eqb}
 use Rattle.convention.specs.declared.Head.{Head}
 use Rattle.convention.specs.declared.TableKind.{TableKind}
 use Rattle.convention.specs.declared.Transition.{Transition}
-use Rattle.convention.specs.Numbers.{readingNo}
+use Rattle.convention.specs.declared.Reading.{Reading}
+use Rattle.convention.specs.declared.TableAnswer.{TableAnswer}
+use Rattle.convention.specs.Numbers.{reading}
 use Rattle.convention.specs.Fields.{kindsAt, headOf, headNo, openingNo, shapeNo}
 use Rattle.convention.specs.Tables.{tableKindLength, tableKindOf, tableKindsNo, tableKindsOf, statesAt, statesOf, statesNo}
 use Rattle.convention.specs.Tables.{transitionOf, isTransition, transitionNo, transitionsNo, rowsAt, rowLength, rowAt}
 use Rattle.convention.specs.Tables.{tableNo, blankTableKind, tableOf, readTable, transition, rowNo, row}
 use Rattle.convention.specs.Promised.{ShapeRead, TableRead}
-use Rattle.convention.proofs.Numbers.{or-zero, unless-zero, field-zero, reading-no}
+use Rattle.convention.proofs.Numbers.{or-zero, unless-zero, field-zero, read-number, refused-number, refused-some}
 use Rattle.convention.proofs.Sheets.{fields-zero, behind-count, behind-read, filled-length, head-read, opening-head, shape-read}
 
 -- The part of a transition's test that speaks of its place.
@@ -154,14 +156,27 @@ module _ (limit : ℕ) (t : List ℕ) (e : tableNo limit t ≡ 0) where
         transition = table-transition;
       }
 
--- The reader's answer: the number, and the table where it is 0.
-pub table-number : (limit : ℕ) (t : List ℕ) → readingNo (readTable limit t .reading) ≡ tableNo limit t
-unfolding readTable
-table-number limit t = reading-no (tableNo limit t)
-
+-- What the reader's answer tells: where it read the table, the table; where it refused, the number.
 pub table-given : (limit : ℕ) (t : List ℕ) → tableNo limit t ≡ 0 → readTable limit t .table ≡ tableOf t
 unfolding readTable
 table-given limit t e = rw e
+
+module _ (limit : ℕ) (t : List ℕ) (a : TableAnswer) (ea : a ≡ readTable limit t) where
+  table-reading : reading (tableNo limit t) ≡ a .reading
+  unfolding readTable
+  table-reading = rw ea
+
+  pub table-right : a .reading ≡ Reading.Read → tableNo limit t ≡ 0
+  table-right e = read-number (tableNo limit t) (table-reading ∙ e)
+
+  pub table-is : a .reading ≡ Reading.Read → a .table ≡ tableOf t
+  table-is e = rw ea (table-given limit t (table-right e))
+
+  pub table-refused : (n : ℕ) → a .reading ≡ Reading.Refused n → tableNo limit t ≡ n
+  table-refused n e = refused-number (tableNo limit t) n (table-reading ∙ e)
+
+  pub table-wrong : (n : ℕ) → a .reading ≡ Reading.Refused n → 0 < n
+  table-wrong n e = rw (← table-refused n e) (refused-some (tableNo limit t) n (table-reading ∙ e))
 
 module _ (limit : ℕ) (t : List ℕ) (state : ℕ) (e : rowNo limit t state ≡ 0) where
   row-tests : (tableNo limit t ≡ 0) × (state < statesOf t)

@@ -18,9 +18,9 @@ use Rattle.convention.specs.Tables.{tableNo, tableOf, readTable}
 use Rattle.convention.specs.Walked.{byTable}
 use Rattle.convention.specs.Judged.{FaultyList, FirstFaulty, listFault, judgeNo, Judges}
 use Rattle.convention.specs.Promised.{TableRead}
-use Rattle.convention.proofs.Numbers.{or-here, read-number, refused-number, refused-some}
+use Rattle.convention.proofs.Numbers.{or-here}
 use Rattle.convention.proofs.Lists.{below-known}
-use Rattle.convention.proofs.Tables.{table-read, table-given}
+use Rattle.convention.proofs.Tables.{table-read, table-right, table-is, table-refused, table-wrong}
 use Rattle.places.specs.Walks.{WalkIs}
 use Rattle.walking.specs.Asked.{WalkAsks}
 use Rattle.judging.specs.Watched.{nodes, LeastBelow}
@@ -111,25 +111,20 @@ module _ (table : Table) (t before out : List ℕ) (asks : JudgeAsks table t bef
 -- ---- the reader's answer
 
 module _ (t : List ℕ) (a : TableAnswer) (ea : a ≡ readTable stateLimit t) (out : List ℕ) where
-  answered : reading (tableNo stateLimit t) ≡ a .reading
-  unfolding readTable
-  answered = rw ea
-
   -- It refuses.
   pub judge-refused : (n : ℕ) → a .reading ≡ Reading.Refused n → Judges stateLimit t out (Judging.Refused n) out
   unfolding Judges judgeNo
   judge-refused n e =
-      let is = refused-number (tableNo stateLimit t) n (answered ∙ e) in
-      let some : 0 < n = rw (← is) (refused-some (tableNo stateLimit t) n (answered ∙ e)) in
-      (rw is (or-here n _ some), some, refl)
+      let some = table-wrong stateLimit t a ea n e in
+      (rw (table-refused stateLimit t a ea n e) (or-here n _ some), some, refl)
 
   -- It gives the table.
   module _ (e : a .reading ≡ Reading.Read) where
     right : tableNo stateLimit t ≡ 0
-    right = read-number (tableNo stateLimit t) (answered ∙ e)
+    right = table-right stateLimit t a ea e
 
     is : a .table ≡ tableOf t
-    is = rw ea (table-given stateLimit t right)
+    is = table-is stateLimit t a ea e
 
     -- There is too little room for the list,
     pub judge-short : length out < 2 * a .table .states → Judges stateLimit t out (Judging.Refused 12) out

@@ -1,6 +1,6 @@
 -- What the public call hands down, and how its answer and the lent memory come together.
 use Prim.Native.Nat.{ℕ, zero, suc, _*_, _≤_}
-use mathlib.Core.Path.{_≡_, refl, sym, _∙_}
+use mathlib.Core.Path.{_≡_, refl, sym}
 use mathlib.Core.List.{List}
 use native.Mathlib.Omega.{arith}
 use lib.ListN.{length}
@@ -11,13 +11,12 @@ use Rattle.convention.specs.declared.SheetAnswer.{SheetAnswer}
 use Rattle.convention.specs.declared.Placing.{Placing}
 use Rattle.convention.specs.declared.Placing.the-variants.{Placed, Faulty}
 use Rattle.convention.specs.Numbers.{argumentLimit, reading}
-use Rattle.convention.specs.Sheets.{sheetNo, sheetOf, readSheet}
+use Rattle.convention.specs.Sheets.{readSheet}
 use Rattle.convention.specs.Lists.{unknownAt, walkAnswer, placingMemory}
 use Rattle.convention.specs.Rules.{byRules, placeByRules, rulesMemory}
 use Rattle.convention.specs.Promised.{SheetRead}
-use Rattle.convention.proofs.Numbers.{read-number, refused-number, refused-some}
 use Rattle.convention.proofs.Lists.{unknown-le}
-use Rattle.convention.proofs.Sheets.{sheet-read, sheet-given}
+use Rattle.convention.proofs.Sheets.{sheet-read, sheet-right, sheet-is, sheet-refused, sheet-wrong}
 use Rattle.places.specs.Walks.{WalkIs, recordsBefore, PlacingIs}
 use Rattle.places.proofs.Walks.{faulty, all-placed, not-read}
 use Rattle.placing.specs.Asked.{RoomAsks}
@@ -57,36 +56,25 @@ module _ (sheet : Sheet) (ks out : List ℕ) (fault stop : ℕ) (p : Offset) (r 
 
 -- The reader's answer: what it promises where it read the sheet, and the call's answer and memory on either.
 module _ (s : List ℕ) (a : SheetAnswer) (ea : a ≡ readSheet s) where
-  number : reading (sheetNo s) ≡ a .reading
-  unfolding readSheet
-  number = rw ea
-
   module _ (e : a .reading ≡ Reading.Read) where
-    right : sheetNo s ≡ 0
-    right = read-number (sheetNo s) (number ∙ e)
-
-    sheet-is : a .sheet ≡ sheetOf s
-    sheet-is = rw ea (sheet-given s right)
-
     pub was-read : SheetRead (a .sheet)
-    was-read = rw sheet-is (sheet-read s right)
+    was-read = rw (sheet-is s a ea e) (sheet-read s (sheet-right s a ea e))
 
     module _ (ks out : List ℕ) (r : Placing) (after : List ℕ)
         (is : PlacingIs argumentLimit (a .sheet .head .kinds) (byRules (a .sheet)) ks out r after) where
       pub placed-answer : r ≡ placeByRules argumentLimit s ks (length out)
       unfolding placeByRules
-      placed-answer = rw (right, ← sheet-is) (is .answers)
+      placed-answer = rw (sheet-right s a ea e, ← sheet-is s a ea e) (is .answers)
 
       pub placed-memory : after ≡ rulesMemory argumentLimit s ks out
       unfolding rulesMemory
-      placed-memory = rw (← placed-answer, ← sheet-is) (is .memory)
+      placed-memory = rw (← placed-answer, ← sheet-is s a ea e) (is .memory)
 
   module _ (n : ℕ) (e : a .reading ≡ Reading.Refused n) (ks out : List ℕ) where
     pub refused-answer : Placing.Refused n ≡ placeByRules argumentLimit s ks (length out)
     unfolding placeByRules
     refused-answer =
-        rw (← refused-number (sheetNo s) n (number ∙ e))
-        (sym (not-read argumentLimit (sheetNo s) _ _ ks (length out) (refused-some (sheetNo s) n (number ∙ e))))
+        rw (sheet-refused s a ea n e) (sym (not-read argumentLimit n _ _ ks (length out) (sheet-wrong s a ea n e)))
 
     pub refused-memory : out ≡ rulesMemory argumentLimit s ks out
     unfolding rulesMemory placingMemory

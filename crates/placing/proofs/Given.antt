@@ -62,11 +62,11 @@ unfolding markRuns
 marks-stay taken count [] r e = e
 marks-stay taken count (s ∷ starts) r e = marks-stay (markRun taken s count) count starts r (mark-stays taken s count r e)
 
-closed-length : (closing : Bool) (taken : List Bool) (count : ℕ) (starts : List ℕ) → length (cond closing (markRuns taken count starts) taken) ≡ length taken
+pub closed-length : (closing : Bool) (taken : List Bool) (count : ℕ) (starts : List ℕ) → length (cond closing (markRuns taken count starts) taken) ≡ length taken
 closed-length true taken count starts = marks-length taken count starts
 closed-length false taken count starts = refl
 
-closed-stays : (closing : Bool) (taken : List Bool) (count : ℕ) (starts : List ℕ) (r : ℕ) → getD taken r false ≡ true
+pub closed-stays : (closing : Bool) (taken : List Bool) (count : ℕ) (starts : List ℕ) (r : ℕ) → getD taken r false ≡ true
     → getD (cond closing (markRuns taken count starts) taken) r false ≡ true
 closed-stays true taken count starts r e = marks-stay taken count starts r e
 closed-stays false taken count starts r e = e

@@ -11,13 +11,12 @@ use Rattle.convention.specs.declared.Placing.{Placing}
 use Rattle.convention.specs.declared.Reading.{Reading}
 use Rattle.convention.specs.declared.TableAnswer.{TableAnswer}
 use Rattle.convention.specs.Numbers.{stateLimit, argumentLimit, reading}
-use Rattle.convention.specs.Tables.{tableNo, tableOf, readTable}
+use Rattle.convention.specs.Tables.{readTable}
 use Rattle.convention.specs.Lists.{unknownAt, recordLength, placingMemory}
 use Rattle.convention.specs.Walked.{byTable, placeByTable, tableMemory}
 use Rattle.convention.specs.Promised.{TableRead}
-use Rattle.convention.proofs.Numbers.{read-number, refused-number, refused-some}
 use Rattle.convention.proofs.Lists.{unknown-le}
-use Rattle.convention.proofs.Tables.{table-read, table-given}
+use Rattle.convention.proofs.Tables.{table-read, table-right, table-is, table-refused, table-wrong}
 use Rattle.places.specs.Walks.{WalkIs, PlacingIs}
 use Rattle.places.proofs.Walks.{not-read}
 use Rattle.walking.specs.Asked.{WalkAsks, WriteAsks}
@@ -38,25 +37,14 @@ write-asks table t ks out h at fault stop p read few eh e known room walk z =
 
 -- The reader's answer: what it promises where it read the table, and the call's answer and memory on either.
 module _ (t : List ℕ) (a : TableAnswer) (ea : a ≡ readTable stateLimit t) where
-  number : reading (tableNo stateLimit t) ≡ a .reading
-  unfolding readTable
-  number = rw ea
-
-  right : a .reading ≡ Reading.Read → tableNo stateLimit t ≡ 0
-  right e = read-number (tableNo stateLimit t) (number ∙ e)
-
-  table-is : a .reading ≡ Reading.Read → a .table ≡ tableOf t
-  table-is e = rw ea (table-given stateLimit t (right e))
-
   pub was-read : a .reading ≡ Reading.Read → TableRead stateLimit (a .table) t
-  was-read e = rw (table-is e) (table-read stateLimit t (right e))
+  was-read e = rw (table-is stateLimit t a ea e) (table-read stateLimit t (table-right stateLimit t a ea e))
 
   module _ (ks out : List ℕ) where
     pub refused-answer : (n : ℕ) → a .reading ≡ Reading.Refused n → Placing.Refused n ≡ placeByTable stateLimit argumentLimit t ks (length out)
     unfolding placeByTable
     refused-answer n e =
-        let is = refused-number (tableNo stateLimit t) n (number ∙ e) in
-        rw (← is) (sym (not-read argumentLimit (tableNo stateLimit t) _ _ ks (length out) (refused-some (tableNo stateLimit t) n (number ∙ e))))
+        rw (table-refused stateLimit t a ea n e) (sym (not-read argumentLimit n _ _ ks (length out) (table-wrong stateLimit t a ea n e)))
 
     pub refused-memory : (n : ℕ) → a .reading ≡ Reading.Refused n → out ≡ tableMemory stateLimit argumentLimit t ks out
     unfolding tableMemory placingMemory
@@ -66,8 +54,8 @@ module _ (t : List ℕ) (a : TableAnswer) (ea : a ≡ readTable stateLimit t) wh
         (is : PlacingIs argumentLimit (a .table .head .kinds) (byTable (a .table) t) ks out r after) where
       pub placed-answer : r ≡ placeByTable stateLimit argumentLimit t ks (length out)
       unfolding placeByTable
-      placed-answer = rw (right e, ← table-is e) (is .answers)
+      placed-answer = rw (table-right stateLimit t a ea e, ← table-is stateLimit t a ea e) (is .answers)
 
       pub placed-memory : after ≡ tableMemory stateLimit argumentLimit t ks out
       unfolding tableMemory
-      placed-memory = rw (← placed-answer, ← table-is e) (is .memory)
+      placed-memory = rw (← placed-answer, ← table-is stateLimit t a ea e) (is .memory)
