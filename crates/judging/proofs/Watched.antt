@@ -9,8 +9,7 @@ use mathlib.Core.Logic.{inl, inr}
 use mathlib.Core.Bool.{Bool, true, false, cond, or-false}
 use mathlib.Core.List.{List, [], _∷_, _++_}
 use lib.Dec.{eqb, lit<}
-use lib.ListN.{length, getD, replicate, getD-replicate, List·getD-eq-default}
-use lib.Seq.{length-sets}
+use lib.ListN.{length, getD, getD-replicate, List·getD-eq-default}
 use borrow.Author.Tests.{eqb-true, eq-eqb, ne-eqb}
 use Rattle.convention.specs.declared.Head.{Head}
 use Rattle.convention.specs.declared.TableKind.{TableKind}
@@ -30,6 +29,7 @@ use Rattle.convention.proofs.Tables.{transition-registers, transition-next}
 use Rattle.convention.proofs.Runs.{either, free-some}
 use Rattle.convention.proofs.Lists.{holds-along}
 use Rattle.convention.proofs.Exploring.{Decides, leads-unique, met-holds, few}
+use Rattle.walking.proofs.Given.{Walking, begin-walking, step-walking}
 use Rattle.judging.specs.Watched.{nodeOf, nodeState, nodeFlag, watchedRegistersFault, watchedFault, watchedGiven}
 use Rattle.judging.specs.Watched.{nodeFault, nodeAfter, watched, nodes}
 use Rattle.judging.proofs.Runs.{free-watched, in-run, mark-at}
@@ -38,9 +38,9 @@ use Rattle.judging.proofs.Fronts.{below-snoc, snoc-faulty}
 -- ---- one step
 
 -- What a later test gives is given, whatever an earlier one gives.
-or-later : (a b : ℕ) → 0 < b → 0 < orElse a b
-or-later zero b p = p
-or-later (suc a) b p = omega arith
+or-some : (a b : ℕ) → 0 < b → 0 < orElse a b
+or-some zero b p = p
+or-some (suc a) b p = omega arith
 
 module _ (h : Head) (kind : TableKind) (x : Transition) (given : List Bool) where
   -- A step without a fault has none as far as any one register tells,
@@ -66,7 +66,7 @@ module _ (h : Head) (kind : TableKind) (x : Transition) (given : List Bool) wher
   unfolding tableFault watchedFault
   step-watched within p = elim (either (eqb (x .form) 1)) [
     | inl f ↦ elim (either (freeRun given (x .a) (x .b))) [
-      | inl free ↦ let count = rw (f, free) at p in (h .registers, omega arith, rw f (search or-later))
+      | inl free ↦ let count = rw (f, free) at p in (h .registers, omega arith, rw f (search or-some))
       | inr taken ↦
           let (r, from, to, was) = free-some given (x .a) (x .b) taken in
           (r, omega (arith, within (eqb-true _ 1 f)), rw (f, was, in-run _ _ r from to) (lit< tt))
@@ -82,12 +82,6 @@ step-gives h x s = elim (either (eqb (x .form) 1)) [
   | inl f ↦ rw f
   | inr f ↦ elim (either (eqb (x .form) 2)) [ inl g ↦ rw (f, g) | inr g ↦ rw (f, g) ]
 ]
-
-given-length : (h : Head) (x : Transition) (s : ByTable) → length (tableAfter h x s .given) ≡ length (s .given)
-given-length h x s = rw (step-gives h x s) (elim (either (eqb (x .form) 1)) [
-  | inl f ↦ rw f (length-sets (s .given) (x .a) (replicate (x .b) true))
-  | inr f ↦ rw f
-])
 
 -- Whether r is among the given afterwards is what the watched walk of r says.
 given-after : (h : Head) (x : Transition) (s : ByTable) → (x .form ≡ 1 → x .a + x .b ≤ length (s .given)) → (r : ℕ)
@@ -148,11 +142,6 @@ walkFault table t ks = faultFrom (byTable table t) (byTable table t .begin) ks
 abbrev pub walkEnd : Table → List ℕ → List ℕ → ByTable
 walkEnd table t ks = stateFrom (byTable table t) (byTable table t .begin) ks
 
--- What holds of every state of that walk: its state is one of the table's, and there is a flag for each of the sixteen registers.
-pub record Walking (table : Table) (s : ByTable) : Type 0 where
-  pub known : s .state < table .states
-  pub sixteen : length (s .given) ≡ 16
-
 -- In the watched walk of r the list ks leads to a node where kind k is faulty.
 pub record EndsFaulty (table : Table) (t : List ℕ) (r : ℕ) (ks : List ℕ) (k : ℕ) : Type 0 where
   pub node : ℕ
@@ -192,23 +181,13 @@ module _ (limit : ℕ) (table : Table) (t : List ℕ) (read : TableRead limit ta
   pub nodes-few : (r n : ℕ) → length (met (watched table t r) n) ≤ nodes table
   nodes-few r n = few (watched table t r) (watched-decides table t r) n (λ node. node) (nodes table) (λ a b e. e) (nodes-below r n)
 
-  -- The walk begins so, each step keeps it, and the watched walk of r steps with it.
-  pub begin-walking : Walking table (byTable table t .begin)
-  begin-walking = record { known = read .some; sixteen = refl }
-
-  module _ (s : ByTable) (w : Walking table s) (k : ℕ) (below : k < table .head .kinds) where
-    pub step-walking : Walking table (tableAfter (table .head) (transition table t (s .state) k) s)
-    unfolding tableAfter
-    step-walking = record {
-      known = next-known (s .state) k (w .known) below;
-      sixteen = given-length (table .head) (transition table t (s .state) k) s ∙ w .sixteen;
-    }
-
-    step-tied : (r : ℕ) → nodeAfter table t r (nodeAt r s) k ≡ nodeAt r (tableAfter (table .head) (transition table t (s .state) k) s)
-    unfolding nodeAfter
-    step-tied r =
-        rw (node-state, node-flag)
-        (node-after (table .head) (transition table t (s .state) k) s (λ f. omega (arith, run-within (s .state) k (w .known) below f)) r)
+  -- The watched walk of r steps with the walk.
+  step-tied : (s : ByTable) (w : Walking table s) (k : ℕ) (below : k < table .head .kinds) (r : ℕ)
+      → nodeAfter table t r (nodeAt r s) k ≡ nodeAt r (tableAfter (table .head) (transition table t (s .state) k) s)
+  unfolding nodeAfter
+  step-tied s w k below r =
+      rw (node-state, node-flag)
+      (node-after (table .head) (transition table t (s .state) k) s (λ f. omega (arith, run-within (s .state) k (w .known) below f)) r)
 
   -- So the watched walk of r leads along every list without a fault, to the node of the state behind it.
   tied : (r : ℕ) (s : ByTable) (ks : List ℕ) → Walking table s → KindsBelow (table .head .kinds) ks → faultFrom (byTable table t) s ks ≡ 0
@@ -218,12 +197,12 @@ module _ (limit : ℕ) (table : Table) (t : List ℕ) (read : TableRead limit ta
   tied r s (k ∷ ks) w known e =
       let both = or-zero _ _ e in
       let here = step-clean (table .head) (tableKind table k) (transition table t (s .state) k) (s .given) r (both .0) in
-      let later = tied r _ ks (step-walking s w k (known .0)) (known .1) (both .1) in
+      let later = tied r _ ks (step-walking limit table t read s k w (known .0)) (known .1) (both .1) in
       (known .0, eq-eqb _ 0 (node-fault table t r s k ∙ here), rw (step-tied s w k (known .0) r) later)
 
   pub tied-along : (r : ℕ) (ks : List ℕ) → KindsBelow (table .head .kinds) ks → walkFault table t ks ≡ 0
       → Leads (watched table t r) 0 ks (nodeAt r (walkEnd table t ks))
-  tied-along r ks known e = rw (none-given r) at (tied r (byTable table t .begin) ks begin-walking known e)
+  tied-along r ks known e = rw (none-given r) at (tied r (byTable table t .begin) ks (begin-walking limit table t read) known e)
 
   -- A list whose first faulty step is its last ends faulty in the watched walk of some register,
   pub some-watches : (ks : List ℕ) (k : ℕ) → KindsBelow (table .head .kinds) ks → k < table .head .kinds
@@ -232,7 +211,9 @@ module _ (limit : ℕ) (table : Table) (t : List ℕ) (read : TableRead limit ta
   some-watches ks k known below e f =
       let s = walkEnd table t ks in
       let x = transition table t (s .state) k in
-      let w = holds-along (byTable table t) (Walking table) (table .head .kinds) (λ s k w b _. step-walking s w k b) _ ks begin-walking known e in
+      let w =
+      holds-along (byTable table t) (Walking table) (table .head .kinds) (λ s k w b _. step-walking limit table t read s k w b) _ ks
+      (begin-walking limit table t read) known e in
       let (r, among, faulty) = step-watched (table .head) (tableKind table k) x (s .given) (run-within (s .state) k (w .known) below) f in
       (r, among, record { node = nodeAt r s; leads = tied-along r ks known e; below = below; faulty = rw (node-fault table t r s k) faulty })
 

@@ -83,55 +83,64 @@ step-ends h x p within = elim (either (eqb (x .form) 1)) [
   | inr f ↦ elim (either (eqb (x .form) 2)) [ inl g ↦ rw (f, g) (omega arith) | inr g ↦ rw (f, g) (omega arith) ]
 ]
 
--- A state of the walk: one of the table's, with sixteen flags.
-record Good (table : Table) (s : ByTable) : Type 0 where
-  known : s .state < table .states
-  sixteen : length (s .given) ≡ 16
+-- What holds of every state of the walk: its state is one of the table's, and there is a flag for each of the sixteen registers.
+pub record Walking (table : Table) (s : ByTable) : Type 0 where
+  pub known : s .state < table .states
+  pub sixteen : length (s .given) ≡ 16
 
 module _ (limit : ℕ) (table : Table) (t : List ℕ) (read : TableRead limit table t) where
-  -- One argument, from such a state.
-  module _ (s : ByTable) (k : ℕ) (good : Good table s) (below : k < table .head .kinds) (e : byTable table t .fault s k ≡ 0) where
-    abbrev here : Transition
-    here = transition table t (s .state) k
+  -- The walk begins so.
+  pub begin-walking : Walking table (byTable table t .begin)
+  begin-walking = record { known = read .some; sixteen = refl }
 
-    right : isTransition (table .head) (table .states) here ≡ true
+  -- The transition of an argument.
+  abbrev here : ByTable → ℕ → Transition
+  here s k = transition table t (s .state) k
+
+  -- One argument, from such a state.
+  module _ (s : ByTable) (k : ℕ) (good : Walking table s) (below : k < table .head .kinds) where
+    right : isTransition (table .head) (table .states) (here s k) ≡ true
     right = read .transition (s .state) k (good .known) below
 
-    table-gives : StepGives (byTable table t) (λ s. s .given) (Good table) s k
+    -- It leads to such a state.
+    pub step-walking : Walking table (byTable table t .after s k)
+    unfolding tableAfter
+    step-walking = record {
+      known = transition-next (table .head) (table .states) (here s k) right (read .some);
+      sixteen = place-length (byTable table t .place s k) (s .given) ∙ good .sixteen;
+    }
+
+  -- One without a fault.
+  module _ (s : ByTable) (k : ℕ) (good : Walking table s) (below : k < table .head .kinds) (e : byTable table t .fault s k ≡ 0) where
+    table-gives : StepGives (byTable table t) (λ s. s .given) (Walking table) s k
     unfolding tableAfter
     table-gives = record {
-      keeps = record {
-        known = transition-next (table .head) (table .states) here right (read .some);
-        sixteen = place-length (byTable table t .place s k) (s .given) ∙ good .sixteen;
-      };
-      within = rw (good .sixteen) (step-ends (table .head) here (s .p .0) (λ f. le-trans (transition-registers (table .head) (table .states) here right f) (read .head .registers)));
-      free = step-free (table .head) (tableKind table k) here (s .given) e (s .p .0);
+      keeps = step-walking s k good below;
+      within = rw (good .sixteen) (step-ends (table .head) (here s k) (s .p .0) (λ f. le-trans (transition-registers (table .head) (table .states) (here s k) (right s k good below) f) (read .head .registers)));
+      free = step-free (table .head) (tableKind table k) (here s k) (s .given) e (s .p .0);
       marks = λ r m. m;
-      above = step-from (table .head) here (s .p);
+      above = step-from (table .head) (here s k) (s .p);
       moves = refl;
     }
 
     here-right : Right (table .head) (tableKind table k) (byTable table t .place s k)
     here-right =
-        step-right (table .head) (tableKind table k) here (s .given) e (read .head) (read .kind k below)
-        (transition-residue (table .head) (table .states) here right) (s .p .0)
+        step-right (table .head) (tableKind table k) (here s k) (s .given) e (read .head) (read .kind k below)
+        (transition-residue (table .head) (table .states) (here s k) (right s k good below)) (s .p .0)
 
     here-reach : byTable table t .after s k .p .0 ≤ s .p .0 + 79
-    here-reach = reach (table .head) (tableKind table k) here s (read .head) (read .kind k below .size) e
+    here-reach = reach (table .head) (tableKind table k) (here s k) s (read .head) (read .kind k below .size) e
 
-  begin-good : Good table (byTable table t .begin)
-  begin-good = record { known = read .some; sixteen = refl }
-
-  each-right : (s : ByTable) (ks : List ℕ) → Good table s → KindsBelow (table .head .kinds) ks → faultFrom (byTable table t) s ks ≡ 0
+  each-right : (s : ByTable) (ks : List ℕ) → Walking table s → KindsBelow (table .head .kinds) ks → faultFrom (byTable table t) s ks ≡ 0
       → (i : ℕ) → i < length ks → Right (table .head) (tableKind table (getD ks i 0)) (getD (placesFrom (byTable table t) s ks) i Nowhere)
   unfolding KindsBelow faultFrom placesFrom
   each-right s [] good below e i h = absurd (omega arith)
   each-right s (k ∷ ks) good below e zero h = here-right s k good (below .0) (or-zero _ _ e .0)
   each-right s (k ∷ ks) good below e (suc i) h =
       let both = or-zero (byTable table t .fault s k) _ e in
-      each-right _ ks (table-gives s k good (below .0) (both .0) .keeps) (below .1) (both .1) i (le-of-suc-le-suc h)
+      each-right _ ks (step-walking s k good (below .0)) (below .1) (both .1) i (le-of-suc-le-suc h)
 
-  p-low : (s : ByTable) (ks : List ℕ) → Good table s → KindsBelow (table .head .kinds) ks → faultFrom (byTable table t) s ks ≡ 0
+  p-low : (s : ByTable) (ks : List ℕ) → Walking table s → KindsBelow (table .head .kinds) ks → faultFrom (byTable table t) s ks ≡ 0
       → stateFrom (byTable table t) s ks .p .0 ≤ s .p .0 + 79 * length ks
   unfolding KindsBelow faultFrom stateFrom
   p-low s [] good below e = omega arith
@@ -140,7 +149,7 @@ module _ (limit : ℕ) (table : Table) (t : List ℕ) (read : TableRead limit ta
       omega (
         arith,
         here-reach s k good (below .0) (both .0),
-        p-low (byTable table t .after s k) ks (table-gives s k good (below .0) (both .0) .keeps) (below .1) (both .1),
+        p-low (byTable table t .after s k) ks (step-walking s k good (below .0)) (below .1) (both .1),
       )
 
   -- A list of known kinds without a faulty step.
@@ -150,17 +159,17 @@ module _ (limit : ℕ) (table : Table) (t : List ℕ) (read : TableRead limit ta
 
     -- Each argument has a place that is right for its kind: on the stack, its size at a multiple of its alignment.
     pub table-right : (i : ℕ) → i < length ks → Right (table .head) (tableKind table (getD ks i 0)) (getD places i Nowhere)
-    table-right = each-right (byTable table t .begin) ks begin-good below e
+    table-right = each-right (byTable table t .begin) ks begin-walking below e
 
     -- No two arguments share a register or a stack byte.
     pub table-apart : (i j : ℕ) → i < j → j < length ks → Apart (getD places i Nowhere) (getD places j Nowhere)
     table-apart =
-        apart (byTable table t) (λ s. s .given) (Good table) (table .head .kinds) (λ s k good h f. table-gives s k good h f)
-        (byTable table t .begin) ks begin-good below e
+        apart (byTable table t) (λ s. s .given) (Walking table) (table .head .kinds) (λ s k good h f. table-gives s k good h f)
+        (byTable table t .begin) ks begin-walking below e
 
     -- The final p.
     pub table-final : stateFrom (byTable table t) (byTable table t .begin) ks .p .0 ≤ 79 * length ks
-    table-final = omega (arith, p-low (byTable table t .begin) ks begin-good below e)
+    table-final = omega (arith, p-low (byTable table t .begin) ks begin-walking below e)
 
 -- So of a list that a call has placed: the p that is answered is at most 31,600, which its four bytes hold.
 pub answer-most : (t ks : List ℕ) (room n : ℕ) (p : Offset) → placeByTable stateLimit argumentLimit t ks room ≡ Placed n p → p .0 ≤ 31600
