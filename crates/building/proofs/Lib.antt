@@ -5,6 +5,7 @@ pub mod Readable
 pub mod InStep
 pub mod Agreement
 pub mod Calls
+pub mod Bytes
 pub mod Clean
 pub mod Reached
 pub mod Unreached

@@ -1,6 +1,6 @@
 -- Laws of bytes: big-endian bytes read back, what memory holds once bytes were written, and blocks of one length laid one behind the other.
 use Prim.Native.Nat.{ℕ, zero, suc, _+_, _*_, _/_, _%_, _^_, _≤_, _<_}
-use mathlib.Core.Path.{_≡_, refl, sym, _∙_}
+use mathlib.Core.Path.{_≡_, sym, _∙_}
 use mathlib.Core.Logic.{_⊎_, inl, inr}
 use mathlib.Core.List.{List, [], _∷_, _++_, append-assoc}
 use native.Mathlib.Nat.{add-zero, add-assoc, mul-le-mul-left, div-div-eq-div-mul, eq-or-lt-of-le, le-of-suc-le-suc}
@@ -86,12 +86,6 @@ block-at f w (suc n) wide i h = go (eq-or-lt-of-le (le-of-suc-le-suc h)) (block-
 pub getD-block : (f : ℕ → List ℕ) (w n : ℕ) → ((i : ℕ) → i < n → length (f i) ≡ w)
     → (i j d : ℕ) → i < n → j < w → getD (blocks f n) (w * i + j) d ≡ getD (f i) j d
 getD-block f w n wide i j d h k = rw (← block-at f w n wide i h, getD-take, getD-drop)
-
--- Blocks that agree one by one agree.
-pub blocks-agree : (f g : ℕ → List ℕ) (n : ℕ) → ((i : ℕ) → i < n → f i ≡ g i) → blocks f n ≡ blocks g n
-unfolding blocks
-blocks-agree f g zero same = refl
-blocks-agree f g (suc n) same = rw (blocks-agree f g n (λ i h. same i (omega arith)), same n (omega arith))
 
 -- One more block of a run.
 pub written-block : (d : List ℕ) (at : ℕ) (f : ℕ → List ℕ) (w n : ℕ) → ((i : ℕ) → i < n → length (f i) ≡ w) → at ≤ length d

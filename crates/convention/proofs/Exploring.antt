@@ -29,15 +29,6 @@ pub record Decides (X : Automaton) : Type 0 where
   pub same-eq : (a b : X .Node) → X .same a b ≡ true → a ≡ b
   pub same-refl : (a : X .Node) → X .same a a ≡ true
 
--- A number is at most the count of the entries.
-pub number-le : (X : Automaton) (l : List (Entry X)) (s : X .Node) → number X l s ≤ length l
-unfolding number
-number-le X [] s = omega arith
-number-le X (e ∷ l) s = elim (either (X .same (e .node) s)) [
-  | inl t ↦ rw (t, number) (omega arith)
-  | inr t ↦ rw (t, number) (omega (arith, number-le X l s))
-]
-
 module _ (X : Automaton) (D : Decides X) where
   -- At a node's number, where that is an entry's, stands the node.
   pub node-number : (l : List (Entry X)) (s : X .Node) → number X l s < length l → entry X l (number X l s) .node ≡ s
@@ -340,13 +331,6 @@ module _ (X : Automaton) where
   leads-snoc s [] t k e b w = rw e (b, w, refl)
   leads-snoc s (j ∷ ks) t k h b w = (h .0, h .1, leads-snoc (X .next s j) ks t k (h .2) b w)
 
-  -- Of a list that ends in k the front leads to a node from which k leads on.
-  pub leads-front : (s : X .Node) (ks : List ℕ) (k : ℕ) (t : X .Node) → Leads X s (ks ++ k ∷ []) t
-      → (u : X .Node) × Leads X s ks u × (k < X .kinds) × (X .goes u k ≡ true) × (X .next u k ≡ t)
-  unfolding Leads
-  leads-front s [] k t h = (s, refl, h .0, h .1, h .2)
-  leads-front s (j ∷ ks) k t h = let r = leads-front (X .next s j) ks k t (h .2) in (r .0, (h .0, h .1, r .1), r .2, r .3, r .4)
-
   -- A list leads to one node at most.
   pub leads-unique : (s : X .Node) (ks : List ℕ) (t u : X .Node) → Leads X s ks t → Leads X s ks u → t ≡ u
   unfolding Leads
@@ -504,11 +488,6 @@ module _ (X : Automaton) (D : Decides X) (n : ℕ) where
       → ((i : ℕ) → i < length (met X n) → code (entry X (met X n) i .node) < B) → length (met X n) ≤ B
   few code B inj below =
       pigeonhole (λ i. code (entry X (met X n) i .node)) (length (met X n)) B below (λ i j o h e. distinct i j o h (inj _ _ e))
-
--- So with B values the scan is whole after B entries.
-pub whole-at : (X : Automaton) (D : Decides X) (code : X .Node → ℕ) (B : ℕ) → ((a b : X .Node) → code a ≡ code b → a ≡ b)
-    → ((i : ℕ) → i < length (met X B) → code (entry X (met X B) i .node) < B) → length (met X B) ≤ B
-whole-at X D code B = few X D B code B
 
 -- ---- more than a limit
 

@@ -1,21 +1,21 @@
 -- Laws of lists of kinds: a walk position by position, as a loop takes it; where it stops; two lists one behind the other; records; known kinds.
 use Prim.Native.Nat.{ℕ, zero, suc, _+_, _*_, _≤_, _<_}
-use mathlib.Core.Path.{_≡_, refl, ap}
+use mathlib.Core.Path.{_≡_, refl, sym, ap}
 use mathlib.Core.Logic.{inl, inr}
-use mathlib.Core.List.{List, [], _∷_, _++_}
-use native.Mathlib.Nat.{suc-pred-eq-of-pos, le-of-suc-le-suc, eq-zero-or-pos}
+use mathlib.Core.List.{List, [], _∷_, _++_, append-assoc}
+use native.Mathlib.Nat.{suc-pred-eq-of-pos, le-of-suc-le-suc, eq-zero-or-pos, zero-add}
 use native.Mathlib.Decide.{decLt}
 use native.Mathlib.Numerals.{add-one}
 use native.Mathlib.Omega.{arith}
-use lib.ListN.{length, getD, drop, length-append, drop-of-length-le}
-use lib.Seq.{drop-cons}
+use lib.ListN.{length, getD, take, drop, length-append, drop-of-length-le}
+use lib.Seq.{drop-cons, drop-drop, take-at, drop-at}
 use borrow.Author.Tests.{lt-ltb, le-ltb}
 use Rattle.convention.specs.declared.Placement.{Placement}
 use Rattle.convention.specs.declared.Placement.the-variants.{Registers, Stack, Nowhere}
 use Rattle.convention.specs.Numbers.{orElse}
 use Rattle.convention.specs.Lists.{Steps, faultFrom, stopFrom, stateFrom, placesFrom, recordOf, recordsOf, unknownAt}
 use Rattle.convention.specs.Judged.{KindsBelow}
-use Rattle.convention.proofs.Numbers.{or-zero, or-here, or-assoc}
+use Rattle.convention.proofs.Numbers.{or-zero, or-here, or-assoc, or-keeps}
 
 -- What is left of a list at a position of it.
 rest : (ks : List ℕ) (i : ℕ) → i < length ks → drop i ks ≡ getD ks i 0 ∷ drop (i + 1) ks
@@ -73,7 +73,7 @@ module _ (M : Steps) (s : M .State) (ks : List ℕ) (i : ℕ) where
   records-turn h = rw (rest ks i h)
 
 module _ (M : Steps) where
-  -- A walk stops within the list, and at its end where it has no fault.
+  -- A walk stops within the list.
   pub stop-le : (s : M .State) (ks : List ℕ) → stopFrom M s ks ≤ length ks
   unfolding stopFrom
   stop-le s [] = omega arith
@@ -82,13 +82,6 @@ module _ (M : Steps) where
         | inl e ↦ omega (arith, stop-turn M s (k ∷ ks) 0 (omega arith) e, stop-le (M .after s k) ks)
         | inr f ↦ omega (arith, stop-hit M s (k ∷ ks) 0 (omega arith) f)
       ]
-
-  pub no-fault-stop : (s : M .State) (ks : List ℕ) → faultFrom M s ks ≡ 0 → stopFrom M s ks ≡ length ks
-  unfolding faultFrom stopFrom
-  no-fault-stop s [] e = refl
-  no-fault-stop s (k ∷ ks) e =
-      let both = or-zero (M .fault s k) _ e in
-      omega (arith, stop-turn M s (k ∷ ks) 0 (omega arith) (both .0), no-fault-stop (M .after s k) ks (both .1))
 
   -- What every step without a fault keeps holds behind a list without a fault.
   pub holds-along : (P : M .State → Type 0) (m : ℕ) → ((s : M .State) (k : ℕ) → P s → k < m → M .fault s k ≡ 0 → P (M .after s k))
@@ -99,21 +92,25 @@ module _ (M : Steps) where
       let both = or-zero (M .fault s k) _ e in
       holds-along P m step (M .after s k) ks (step s k p (below .0) (both .0)) (below .1) (both .1)
 
+  -- What holds of no fault and of every step's holds of a list's.
+  pub faults-keep : (P : ℕ → Type 0) (m : ℕ) → P 0 → ((s : M .State) (k : ℕ) → k < m → P (M .fault s k))
+      → (s : M .State) (ks : List ℕ) → KindsBelow m ks → P (faultFrom M s ks)
+  unfolding faultFrom KindsBelow
+  faults-keep P m none each s [] below = none
+  faults-keep P m none each s (k ∷ ks) below = or-keeps P (M .fault s k) _ (each s k (below .0)) (faults-keep P m none each (M .after s k) ks (below .1))
+
   -- A walk over one list and then another.
   pub fault-append : (s : M .State) (a b : List ℕ) → faultFrom M s (a ++ b) ≡ orElse (faultFrom M s a) (faultFrom M (stateFrom M s a) b)
   unfolding faultFrom stateFrom
   fault-append s [] b = refl
   fault-append s (k ∷ a) b = rw (fault-append (M .after s k) a b, or-assoc)
 
-  pub state-append : (s : M .State) (a b : List ℕ) → stateFrom M s (a ++ b) ≡ stateFrom M (stateFrom M s a) b
-  unfolding stateFrom
-  state-append s [] b = refl
-  state-append s (k ∷ a) b = state-append (M .after s k) a b
-
-  pub places-append : (s : M .State) (a b : List ℕ) → placesFrom M s (a ++ b) ≡ placesFrom M s a ++ placesFrom M (stateFrom M s a) b
-  unfolding placesFrom stateFrom
-  places-append s [] b = refl
-  places-append s (k ∷ a) b = rw (places-append (M .after s k) a b)
+  pub stop-append : (s : M .State) (a b : List ℕ) → faultFrom M s a ≡ 0 → stopFrom M s (a ++ b) ≡ length a + stopFrom M (stateFrom M s a) b
+  unfolding faultFrom stopFrom stateFrom
+  stop-append s [] b e = sym (zero-add _)
+  stop-append s (k ∷ a) b e =
+      let both = or-zero (M .fault s k) _ e in
+      omega (arith, stop-turn M s (k ∷ (a ++ b)) 0 (omega arith) (both .0), stop-append (M .after s k) a b (both .1))
 
   -- A place an argument, and a record of six bytes a place.
   pub places-length : (s : M .State) (ks : List ℕ) → length (placesFrom M s ks) ≡ length ks
@@ -130,6 +127,17 @@ pub records-length : (places : List Placement) → length (recordsOf places) ≡
 unfolding recordsOf
 records-length [] = refl
 records-length (place ∷ places) = rw (length-append, record-length, records-length places) (omega arith)
+
+-- The record of place i stands behind those of the places before it.
+pub record-at : (places : List Placement) (others : List ℕ) (i : ℕ) → i < length places
+    → take 6 (drop (6 * i) (recordsOf places ++ others)) ≡ recordOf (getD places i Nowhere)
+unfolding recordsOf
+record-at [] others i h = absurd (omega arith)
+record-at (place ∷ places) others zero h = rw append-assoc (take-at (recordOf place) _ 6 (record-length place))
+record-at (place ∷ places) others (suc i) h =
+    let more : 6 * suc i ≡ 6 + 6 * i = omega arith in
+    rw (more, append-assoc, ← drop-drop (6 * i) 6 (recordOf place ++ (recordsOf places ++ others)), drop-at (recordOf place) _ 6 (record-length place))
+    (record-at places others i (le-of-suc-le-suc h))
 
 -- Looking for a kind of m or more, from position i on: nothing is left; kind i is known; kind i is not.
 module _ (m : ℕ) (ks : List ℕ) (i : ℕ) where

@@ -1,7 +1,8 @@
 -- Laws of answer numbers: what a chain of tests, one test and one field tell of a number, and what a number tells of them.
 use Prim.Native.Nat.{ℕ, zero, suc, _<_}
 use mathlib.Core.Path.{_≡_, refl, sym, _∙_}
-use mathlib.Core.Bool.{Bool, true, false}
+use mathlib.Core.Logic.{_↔_}
+use mathlib.Core.Bool.{Bool, true, false, true≢false}
 use mathlib.Core.List.{List}
 use native.Mathlib.Nat.{suc-ne-zero}
 use native.Mathlib.Omega.{arith}
@@ -28,6 +29,20 @@ pub or-assoc : (a b c : ℕ) → orElse (orElse a b) c ≡ orElse a (orElse b c)
 or-assoc zero b c = refl
 or-assoc (suc a) b c = refl
 
+-- A number that the later test does not give is the first test's; one that the first test does not give is the later one's, where the first passes.
+pub or-at : (a b n : ℕ) → 0 < n → (b ≡ n → ⊥) → orElse a b ≡ n ↔ a ≡ n
+or-at zero b n h other = (λ e. absurd (other e), λ e. absurd (omega arith))
+or-at (suc a) b n h other = (λ e. e, λ e. e)
+
+pub or-past : (a b n : ℕ) → (a ≡ n → ⊥) → orElse a b ≡ n ↔ (a ≡ 0) × (b ≡ n)
+or-past zero b n other = (λ e. (refl, e), λ e. e .1)
+or-past (suc a) b n other = (λ e. absurd (other e), λ e. absurd (suc-ne-zero a (e .0)))
+
+-- What holds of both numbers holds of the one that is given.
+pub or-keeps : (P : ℕ → Type 0) (a b : ℕ) → P a → P b → P (orElse a b)
+or-keeps P zero b p q = q
+or-keeps P (suc a) b p q = p
+
 -- What code answers that makes the second test only where the first finds nothing wrong.
 pub or-first : (a b number : ℕ) → number ≡ a → (number ≡ 0 → ⊥) → number ≡ orElse a b
 or-first a b number e nz = e ∙ sym (or-here a b (rw (← e) (omega (arith, nz))))
@@ -42,6 +57,10 @@ unless-zero false n h e = absurd (omega arith)
 
 pub unless-true : (b : Bool) (n : ℕ) → b ≡ true → unless b n ≡ 0
 unless-true b n e = rw e
+
+pub unless-here : (b : Bool) (n : ℕ) → 0 < n → unless b n ≡ n ↔ b ≡ false
+unless-here true n h = (λ e. absurd (omega arith), λ e. absurd (true≢false e))
+unless-here false n h = (λ _. refl, λ _. refl)
 
 -- One field: 3 where its byte is missing, else what the test of its value gives.
 pub field-zero : (s : List ℕ) (k : ℕ) (right : Bool) (wrong : ℕ) → 0 < wrong → fieldNo s k right wrong ≡ 0

@@ -4,7 +4,7 @@ use mathlib.Core.Path.{_≡_, refl, sym, subst, _∙_}
 use mathlib.Core.Bool.{Bool, true, false, not, _&&_, _||_, and-eq-true-iff}
 use native.Mathlib.Nat.{le-refl, le-antisymm, le-of-suc-le-suc, lt-of-not-le, not-le-of-lt, le-mul-of-pos-right}
 use native.Mathlib.Nat.{mod-lt, mod-eq-of-lt, mod-add-mod, add-mod-mod, add-mod-left, mod-mod-of-dvd}
-use native.Mathlib.Nat.{div-add-mod, lt-div-mul-add, le-div-iff-mul-le, div-lt-iff-lt-mul, dvd-mul-right, dvd-sub, le-of-dvd, dvd-of-mod-eq-zero}
+use native.Mathlib.Nat.{div-add-mod, lt-div-mul-add, div-lt-iff-lt-mul, dvd-mul-right, dvd-sub, le-of-dvd, dvd-of-mod-eq-zero}
 use native.Mathlib.Omega.{arith}
 use lib.Dec.{ltb, leb, eqb}
 use borrow.Author.Tests.{ltb-true, leb-true, le-leb, eqb-true}
@@ -74,12 +74,12 @@ pub shift-mod-size : (a A p size : ℕ) → a ∣ A → (leastOffset a 0 (p % A)
 shift-mod-size a A p size d =
     rw (← mod-add-mod (leastOffset a 0 (p % A)) A size, shift-mod a A p d) (mod-add-mod (leastOffset a 0 p) A size)
 
--- The rules' residue is a multiple of the alignment; a table's offset is one where its residue is, which is where there is no fault 4.
+-- The rules' residue is a multiple of the alignment; a table's offset is one exactly where its residue is, which is where there is no fault 4.
 pub residue-aligned : (a A p : ℕ) → 0 < a → a ∣ A → leastOffset a 0 p % A % a ≡ 0
 residue-aligned a A p h d = mod-mod-of-dvd a (leastOffset a 0 p) d ∙ least-is a 0 p h .remainder
 
-pub offset-aligned : (a A r p : ℕ) → r < A → a ∣ A → r % a ≡ 0 → leastOffset A r p % a ≡ 0
-offset-aligned a A r p h d e = sym (mod-mod-of-dvd a (leastOffset A r p) d) ∙ rw (least-is A r p h .remainder) e
+pub offset-residue : (a A r p : ℕ) → r < A → a ∣ A → leastOffset A r p % a ≡ r % a
+offset-residue a A r p h d = sym (mod-mod-of-dvd a (leastOffset A r p) d) ∙ rw (least-is A r p h .remainder)
 
 -- A test of a value that is one of several numbers: it passes at k, and the value is k; or it passes at k and before, and the value is k or one seen before.
 passes-at : (test : ℕ → Bool) (a k : ℕ) → test k ≡ true → eqb a k ≡ true → test a ≡ true
@@ -120,12 +120,9 @@ divides a b ha hb h =
     test : ℕ → ℕ → Bool
     test k l = not (leb k l) || eqb (l % k) 0
 
--- The registers needed have room for the size, and fewer have not.
+-- The registers needed have room for the size.
 pub needed-room : (w size : ℕ) → 0 < w → size ≤ registersNeeded w size * w
 needed-room w size h = omega (arith, lt-div-mul-add {a = size + w - 1} h)
-
-pub needed-least : (w size k : ℕ) → 0 < w → k < registersNeeded w size → k * w < size
-needed-least w size k h l = omega (arith, le-div-iff-mul-le h .0 l)
 
 -- They are no more than the size's bytes, and so than any bound of the size.
 pub needed-most : (w size n : ℕ) → 0 < w → size ≤ n → registersNeeded w size ≤ n

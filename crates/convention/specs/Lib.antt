@@ -11,5 +11,6 @@ pub mod Orders
 pub mod Explored
 pub mod Built
 pub mod Judged
+pub mod WellPlaced
 pub mod Program
 pub mod Promised

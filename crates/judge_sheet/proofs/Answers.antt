@@ -17,7 +17,7 @@ use Rattle.line.specs.Appended.{Room, Appended}
 use Rattle.line.proofs.Lengths.{refused-short}
 use Rattle.judge_sheet.specs.Texts.{lineRoom, tableRoom, TextIs, TableLine}
 use Rattle.judge_sheet.proofs.Texts.{text-is}
-use Rattle.judge_sheet.proofs.Builds.{room-enough, bytes-are}
+use Rattle.judge_sheet.proofs.Builds.{room-enough, table-bytes}
 
 -- Room for a refusal.
 pub refused-room : (out : List ℕ) (number : ℕ) → lineRoom ≤ length out → number < 256 → Room out 0 (refusedLine number)
@@ -61,7 +61,7 @@ module _ (input out : List ℕ) (m : ℕ) (out′ : List ℕ) where
         → TextIs (TableLine n (head .kinds) (take len after)) m out′ → TextIs (Prints input) m out′
     unfolding line sheetOf
     prints-built n len head memory is h text =
-        let bytes = bytes-are input before after building n len built memory is in
+        let bytes = table-bytes input before after building n len built memory is in
         let found = text .holds in
         record {
           counts = text .counts;

@@ -1,12 +1,11 @@
 -- What building with the program's room means: no table needs more, so number 12 is never given, and a table that is built can be judged.
 use Prim.Native.Nat.{ℕ, zero, suc, _*_, _≤_}
 use mathlib.Core.Path.{_≡_, refl, sym, _∙_}
-use mathlib.Core.List.{List, _++_}
+use mathlib.Core.List.{List}
 use native.Mathlib.Nat.{le-refl, mul-le-mul}
 use native.Mathlib.Omega.{arith}
-use lib.ListN.{length, take, drop, length-append}
-use lib.Seq.{take-at}
-use borrow.Author.Tests.{le-leb, leb-true}
+use lib.ListN.{length, take}
+use borrow.Author.Tests.{le-leb}
 use Rattle.io.proofs.Counting.{front}
 use Rattle.convention.specs.declared.Head.{Head}
 use Rattle.convention.specs.declared.Building.{Building}
@@ -14,11 +13,10 @@ use Rattle.convention.specs.declared.Building.the-variants.{Built}
 use Rattle.convention.specs.Numbers.{stateLimit, orElse}
 use Rattle.convention.specs.Fields.{headOf}
 use Rattle.convention.specs.Sheets.{sheetNo, sheetOf}
-use Rattle.convention.specs.Tables.{tableNo}
-use Rattle.convention.specs.Built.{builtStates, builtTable, statesNumber, buildNo, buildAnswer, build, buildMemory}
-use Rattle.convention.proofs.Numbers.{or-zero, unless-zero}
+use Rattle.convention.specs.Built.{builtStates, builtTable, statesNumber, buildNo, build, buildMemory}
 use Rattle.convention.proofs.Sheets.{sheet-read}
-use Rattle.building.proofs.Readable.{built-length, built-head, built-states, readable}
+use Rattle.building.proofs.Readable.{built-length, built-head, built-states}
+use Rattle.building.proofs.Bytes.{states-fit, built-says, built-readable, bytes-are, bytes-within}
 use Rattle.judge_sheet.specs.Texts.{lineRoom, tableRoom, TableAsks}
 
 -- Two tests in order agree where the later ones agree behind a first that passes.
@@ -33,15 +31,12 @@ module _ (s : List ℕ) where
   abbrev table : List ℕ
   table = builtTable stateLimit (sheetOf s)
 
-  few : statesNumber stateLimit (sheetOf s) ≡ 0 → states ≤ stateLimit
-  few e = leb-true states stateLimit (unless-zero _ 11 (omega arith) e)
-
   -- A table has at most 8 kinds and 200 states.
   table-most : sheetNo s ≡ 0 → statesNumber stateLimit (sheetOf s) ≡ 0 → length table ≤ tableRoom
   table-most read e =
       let head = sheet-read s read .head in
       let row : 4 * sheetOf s .head .kinds ≤ 32 = omega (arith, head .kinds) in
-      omega (arith, built-length (sheetOf s) (builtStates stateLimit (sheetOf s)), mul-le-mul row (few e), head .kinds)
+      omega (arith, built-length (sheetOf s) (builtStates stateLimit (sheetOf s)), mul-le-mul row (states-fit stateLimit s e), head .kinds)
 
   -- So the program's room is as good as the table's length.
   same-no : buildNo stateLimit s tableRoom ≡ buildNo stateLimit s (length table)
@@ -54,52 +49,29 @@ module _ (s : List ℕ) where
   unfolding build
   room-enough = rw same-no
 
-  -- A table that was built, in whatever room: it can be read, and has so many states and bytes.
-  module _ (room n len : ℕ) (built : build stateLimit s room ≡ Built n len) where
-    answer : (k : ℕ) → buildAnswer k states (length table) ≡ Built n len → (k ≡ 0) × (n ≡ states) × (len ≡ length table)
-    answer zero e = (refl, cc, cc)
-    answer (suc k) e = absurd (let z : _≡_ {A = ℕ} 0 1 = cc in omega arith)
-
-    says : (buildNo stateLimit s room ≡ 0) × (n ≡ states) × (len ≡ length table)
-    unfolding build
-    says = answer (buildNo stateLimit s room) built
-
-    pub built-readable : tableNo stateLimit (builtTable stateLimit (sheetOf s)) ≡ 0
-    unfolding buildNo
-    built-readable =
-        let tests = or-zero (sheetNo s) _ (says .0) in
-        readable stateLimit (sheetOf s) (sheet-read s (tests .0)) (few (or-zero _ _ (tests .1) .0)) (omega arith)
-
-  -- Its bytes are the first `len` of the memory.
+  -- A table that was built is the first `len` bytes of the memory.
   module _ (before after : List ℕ) (building : Building) (n len : ℕ) (built : building ≡ build stateLimit s (length before))
       (memory : after ≡ buildMemory stateLimit s before) (is : building ≡ Built n len) where
     known : build stateLimit s (length before) ≡ Built n len
     known = sym built ∙ is
 
-    said : (buildNo stateLimit s (length before) ≡ 0) × (n ≡ states) × (len ≡ length table)
-    said = says (length before) n len known
+    pub table-bytes : take len after ≡ builtTable stateLimit (sheetOf s)
+    table-bytes = rw memory (bytes-are stateLimit s before n len known)
 
-    there : after ≡ table ++ drop (length table) before
-    unfolding buildMemory
-    there = memory ∙ rw (said .0)
+    pub table-within : len ≤ length after
+    table-within = rw memory (bytes-within stateLimit s before n len known)
 
-    pub bytes-are : take len after ≡ builtTable stateLimit (sheetOf s)
-    bytes-are = rw there (take-at table _ len (sym (said .2)))
-
-    pub bytes-within : len ≤ length after
-    bytes-within = rw there (omega (arith, length-append table (drop (length table) before), said .2))
-
-    pub bytes-long : len ≡ length (take len after)
-    bytes-long = front len after bytes-within
+    pub table-long : len ≡ length (take len after)
+    table-long = front len after table-within
 
     -- So it can be judged, and its line written.
     pub table-asks : (head : Head) (out : List ℕ) → head ≡ headOf s → lineRoom ≤ length out → TableAsks n (head .kinds) (take len after) out
     unfolding sheetOf
     table-asks head out h room =
-        rw bytes-are
+        rw table-bytes
         (record {
-          readable = built-readable (length before) n len known;
-          rows = said .1 ∙ sym (built-states (sheetOf s) (builtStates stateLimit (sheetOf s)));
+          readable = built-readable stateLimit s (length before) n len known (omega arith);
+          rows = built-says stateLimit s (length before) n len known .1 ∙ sym (built-states (sheetOf s) (builtStates stateLimit (sheetOf s)));
           head = rw (h, built-head (sheetOf s) (builtStates stateLimit (sheetOf s)));
           room = room;
         })

@@ -1,7 +1,7 @@
 -- No fault's number is above 4.
-use Prim.Native.Nat.{ℕ, zero, suc, _%_, _≤_}
+use Prim.Native.Nat.{ℕ, _%_, _≤_}
 use mathlib.Core.Bool.{Bool, true, false, cond}
-use mathlib.Core.List.{List, [], _∷_}
+use mathlib.Core.List.{List}
 use native.Mathlib.Omega.{arith}
 use lib.Dec.{eqb}
 use Rattle.convention.specs.declared.Head.{Head}
@@ -13,6 +13,8 @@ use Rattle.convention.specs.Numbers.{orElse, unless}
 use Rattle.convention.specs.Rules.{freeRun}
 use Rattle.convention.specs.Lists.{faultFrom}
 use Rattle.convention.specs.Walked.{rightCount, tableFault, byTable}
+use Rattle.convention.specs.Judged.{KindsBelow}
+use Rattle.convention.proofs.Lists.{faults-keep}
 
 -- A step's, whichever tests pass.
 tests-most : (one two free right whole aligned : Bool)
@@ -32,11 +34,5 @@ step-most h kind x given =
     (eqb (x .a % kind .alignment) 0)
 
 -- A list's.
-or-most : (a b : ℕ) → a ≤ 4 → b ≤ 4 → orElse a b ≤ 4
-or-most zero b h k = k
-or-most (suc a) b h k = h
-
-pub fault-most : (table : Table) (t : List ℕ) (s : ByTable) (ks : List ℕ) → faultFrom (byTable table t) s ks ≤ 4
-unfolding faultFrom
-fault-most table t s [] = omega arith
-fault-most table t s (k ∷ ks) = or-most (byTable table t .fault s k) _ (step-most _ _ _ _) (fault-most table t _ ks)
+pub fault-most : (table : Table) (t : List ℕ) (s : ByTable) (ks : List ℕ) → KindsBelow (table .head .kinds) ks → faultFrom (byTable table t) s ks ≤ 4
+fault-most table t = faults-keep (byTable table t) (λ f. f ≤ 4) _ (omega arith) (λ s k b. step-most _ _ _ _)

@@ -36,7 +36,7 @@ small t before (Fault fault n) after e j =
     let read = table-read stateLimit t e in
     let ks = take n after in
     record {
-      fault = rw (j .2 .says) (fault-most (tableOf t) t _ ks);
+      fault = rw (j .2 .says) (fault-most (tableOf t) t _ ks (j .2 .faulty .0));
       few = omega (arith, j .1, read .states);
       within = omega (arith, j .1, j .4, judge-zero stateLimit t (length before) (j .0) .1);
       below = at-below 10 ks λ i h. omega (arith, below-at _ ks (j .2 .faulty .0) i h, read .head .kinds);

@@ -5,7 +5,6 @@ pub mod Hits
 pub mod Least
 pub mod Verdict
 pub mod Unique
-pub mod Buys
 pub mod AllLists
 pub mod Trying
 pub mod Memory

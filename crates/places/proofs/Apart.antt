@@ -1,21 +1,21 @@
 -- Two arguments of one list share no register and no stack byte, over any way of placing that gives out only what is free and marks what it gives out.
-use Prim.Native.Nat.{ℕ, zero, suc, _+_, _≤_, _<_}
+use Prim.Native.Nat.{ℕ, zero, suc, _≤_, _<_}
 use mathlib.Core.Path.{_≡_, refl}
+use mathlib.Core.Logic.{inl, inr}
 use mathlib.Core.Bool.{Bool, true, false}
 use mathlib.Core.List.{List, [], _∷_}
 use native.Mathlib.Nat.{le-of-suc-le-suc}
 use native.Mathlib.Omega.{arith}
 use lib.ListN.{length, getD, set}
-use Rattle.convention.specs.declared.Reg.{Reg}
 use Rattle.convention.specs.declared.Offset.{Offset}
 use Rattle.convention.specs.declared.Placement.{Placement}
 use Rattle.convention.specs.declared.Placement.the-variants.{Registers, Stack, Nowhere}
 use Rattle.convention.specs.Lists.{Steps, faultFrom, placesFrom}
 use Rattle.convention.specs.Rules.{freeRun, markRun, placeTaken, placeP}
 use Rattle.convention.specs.Judged.{KindsBelow}
+use Rattle.convention.specs.WellPlaced.{HasRegister, HasByte, Share}
 use Rattle.convention.proofs.Numbers.{or-zero}
 use Rattle.convention.proofs.Runs.{free-each, mark-in}
-use Rattle.places.specs.Apart.{Apart}
 use Rattle.places.specs.Ends.{runEnd}
 use Rattle.places.proofs.Runs.{length-mark}
 
@@ -68,41 +68,65 @@ place-rises (Registers first count) p above = omega arith
 place-rises (Stack offset count) p above = omega arith
 place-rises Nowhere p above = omega arith
 
+-- A register of a place was free before, and is taken once the place is given out; a stack byte of it does not lie before p, and lies before the p behind it.
+has-free : (place : Placement) (taken : List Bool) (r : ℕ) → FreeIn taken place → HasRegister place r → getD taken r false ≡ false
+has-free (Registers first count) taken r free has = free-each taken (first .0) count free r (has .0) (has .1)
+has-free (Stack offset count) taken r free has = absurd has
+has-free Nowhere taken r free has = absurd has
+
+has-taken : (place : Placement) (taken : List Bool) (r : ℕ) → runEnd place ≤ length taken → HasRegister place r
+    → getD (placeTaken place taken) r false ≡ true
+has-taken (Registers first count) taken r within has = mark-in taken (first .0) count r within (has .0) (has .1)
+has-taken (Stack offset count) taken r within has = absurd has
+has-taken Nowhere taken r within has = absurd has
+
+has-from : (place : Placement) (p : Offset) (x : ℕ) → FromP p place → HasByte place x → p .0 ≤ x
+has-from (Registers first count) p x above has = absurd has
+has-from (Stack offset count) p x above has = omega arith
+has-from Nowhere p x above has = absurd has
+
+has-before : (place : Placement) (p : Offset) (x : ℕ) → HasByte place x → x < placeP place p .0
+has-before (Registers first count) p x has = absurd has
+has-before (Stack offset count) p x has = omega arith
+has-before Nowhere p x has = absurd has
+
 module _ (M : Steps) (taken : M .State → List Bool) (Good : M .State → Type 0) (m : ℕ)
     (step : (s : M .State) (k : ℕ) → Good s → k < m → M .fault s k ≡ 0 → StepGives M taken Good s k) where
-  -- A place that was given out before state t: its registers are taken in t, and its stack bytes end before p.
+  -- A place that was given out before state t: its registers are taken in t, and its stack bytes lie before p.
   record Given (a : Placement) (t : M .State) : Type 0 where
-    registers : (first : Reg) (count : ℕ) → a ≡ Registers first count → (r : ℕ) → first .0 ≤ r → r < first .0 + count
-        → getD (taken t) r false ≡ true
-    bytes : (offset : Offset) (count : ℕ) → a ≡ Stack offset count → offset .0 + count ≤ M .p t .0
+    registers : (r : ℕ) → HasRegister a r → getD (taken t) r false ≡ true
+    bytes : (x : ℕ) → HasByte a x → x < M .p t .0
 
   module _ (s : M .State) (k : ℕ) (gives : StepGives M taken Good s k) where
-    -- A step gives out its place, and what was given out before stays so; its place is apart from that.
+    -- A step gives out its place, and what was given out before stays so.
     given-here : Given (M .place s k) (M .after s k)
     given-here = record {
-      registers = λ first count e r l u. gives .marks r (rw e (mark-in (taken s) (first .0) count r (rw e at (gives .within)) l u));
-      bytes = λ offset count e. rw (gives .moves, e) (omega arith);
+      registers = λ r has. gives .marks r (has-taken (M .place s k) (taken s) r (gives .within) has);
+      bytes = λ x has. rw (gives .moves) (has-before (M .place s k) (M .p s) x has);
     }
 
     given-on : (a : Placement) → Given a s → Given a (M .after s k)
     given-on a given = record {
-      registers = λ first count e r l u. gives .marks r (place-stays (M .place s k) (taken s) r (given .registers first count e r l u));
-      bytes = λ offset count e. rw (gives .moves) (omega (arith, given .bytes offset count e, place-rises (M .place s k) (M .p s) (gives .above)));
+      registers = λ r has. gives .marks r (place-stays (M .place s k) (taken s) r (given .registers r has));
+      bytes = λ x has. rw (gives .moves) (omega (arith, given .bytes x has, place-rises (M .place s k) (M .p s) (gives .above)));
     }
 
-    given-apart : (a : Placement) → Given a s → Apart a (M .place s k)
-    given-apart a given = record {
-      registers = λ f g c d ea eb r l u l′ u′.
-          let marked = given .registers f c ea r l u in
-          let untaken = free-each (taken s) (g .0) d (rw eb at (gives .free)) r l′ u′ in
-          let z : _≡_ {A = ℕ} 0 1 = cc in
-          omega arith;
-      bytes = λ o q c d ea eb. omega (arith, given .bytes o c ea, rw eb at (gives .above));
-    }
+    -- Its stack bytes lie behind those given out before.
+    given-behind : (a : Placement) → Given a s → (x y : ℕ) → HasByte a x → HasByte (M .place s k) y → x < y
+    given-behind a given x y has here = omega (arith, given .bytes x has, has-from (M .place s k) (M .p s) y (gives .above) here)
 
-  -- So it is apart from every later place.
+    -- So it shares nothing with what was given out before.
+    given-apart : (a : Placement) → Given a s → Share a (M .place s k) → ⊥
+    given-apart a given (inl (r, has, here)) =
+        let marked = given .registers r has in
+        let free = has-free (M .place s k) (taken s) r (gives .free) here in
+        let z : _≡_ {A = ℕ} 0 1 = cc in
+        omega arith
+    given-apart a given (inr (x, has, here)) = omega (arith, given-behind a given x x has here)
+
+  -- It shares nothing with any later place.
   later-apart : (a : Placement) (s : M .State) (ks : List ℕ) → Good s → KindsBelow m ks → faultFrom M s ks ≡ 0 → Given a s
-      → (j : ℕ) → j < length ks → Apart a (getD (placesFrom M s ks) j Nowhere)
+      → (j : ℕ) → j < length ks → Share a (getD (placesFrom M s ks) j Nowhere) → ⊥
   unfolding faultFrom placesFrom KindsBelow
   later-apart a s [] good below e given j h = absurd (omega arith)
   later-apart a s (k ∷ ks) good below e given zero h =
@@ -112,9 +136,9 @@ module _ (M : Steps) (taken : M .State → List Bool) (Good : M .State → Type 
       let gives = step s k good (below .0) (both .0) in
       later-apart a (M .after s k) ks (gives .keeps) (below .1) (both .1) (given-on s k gives a given) j (le-of-suc-le-suc h)
 
-  -- Two arguments of one list without a fault are apart.
+  -- Two arguments of one list without a fault share nothing.
   pub apart : (s : M .State) (ks : List ℕ) → Good s → KindsBelow m ks → faultFrom M s ks ≡ 0
-      → (i j : ℕ) → i < j → j < length ks → Apart (getD (placesFrom M s ks) i Nowhere) (getD (placesFrom M s ks) j Nowhere)
+      → (i j : ℕ) → i < j → j < length ks → Share (getD (placesFrom M s ks) i Nowhere) (getD (placesFrom M s ks) j Nowhere) → ⊥
   unfolding faultFrom placesFrom KindsBelow
   apart s [] good below e i j l h = absurd (omega arith)
   apart s (k ∷ ks) good below e i zero l h = absurd (omega arith)

@@ -68,7 +68,7 @@ module _ (M : Steps) (ks : List ℕ) where
       }
 
   -- Writing: before the first record, behind one more, and behind the last.
-  records-long : length (records M ks) ≡ recordLength * length ks
+  pub records-long : length (records M ks) ≡ recordLength * length ks
   records-long = records-length _ ∙ ap (λ (n : ℕ). recordLength * n) (places-length M (M .begin) ks)
 
   pub write-begin : (before : List ℕ) → WriteLeft M ks before (M .begin) 0 before

@@ -1,3 +1,2 @@
 pub mod Ends
 pub mod Walks
-pub mod Apart

@@ -17,6 +17,7 @@ use Rattle.convention.specs.Sheets.{isClosing, sheetNo, sheetOf, sheetKind}
 use Rattle.convention.specs.Lists.{faultFrom, stateFrom, placesFrom}
 use Rattle.convention.specs.Rules.{markRun, markRuns, startsOf, needed, rulesPlace, rulesAfter, byRules, placeByRules}
 use Rattle.convention.specs.Judged.{KindsBelow}
+use Rattle.convention.specs.WellPlaced.{Share}
 use Rattle.convention.specs.Promised.{SheetRead}
 use Rattle.convention.proofs.Bytes.{four-read}
 use Rattle.convention.proofs.Sheets.{sheet-read}
@@ -24,7 +25,6 @@ use Rattle.convention.proofs.Offsets.{least-ge, least-is}
 use Rattle.places.specs.Ends.{stackEnd}
 use Rattle.places.proofs.Runs.{length-mark}
 use Rattle.places.proofs.Accepted.{Accepted, accepted}
-use Rattle.places.specs.Apart.{Apart}
 use Rattle.places.proofs.Apart.{FreeIn, FromP, StepGives, mark-stays, place-length, apart}
 use Rattle.placing.specs.Asked.{stepMost}
 use Rattle.placing.proofs.Search.{left-free}
@@ -115,7 +115,7 @@ module _ (sheet : Sheet) (read : SheetRead sheet) where
   module _ (ks : List ℕ) (below : KindsBelow (sheet .head .kinds) ks) where
     -- Two arguments of a list without a fault share no register and no stack byte.
     pub rules-apart : faultFrom (byRules sheet) (byRules sheet .begin) ks ≡ 0 → (i j : ℕ) → i < j → j < length ks
-        → Apart (getD (places sheet ks) i Nowhere) (getD (places sheet ks) j Nowhere)
+        → Share (getD (places sheet ks) i Nowhere) (getD (places sheet ks) j Nowhere) → ⊥
     rules-apart =
         apart (byRules sheet) (λ s. s .unavailable) (λ s. length (s .unavailable) ≡ 16) (sheet .head .kinds)
         (λ s k good h f. rules-give s k good h) (byRules sheet .begin) ks refl below
@@ -151,5 +151,6 @@ module _ (s ks : List ℕ) (room n : ℕ) (p : Offset) (placed : placeByRules ar
   answer-most = rw (← means .final) (final-most (sheetOf s) (sheet-read s (means .read)) ks (means .below) (means .short))
 
   -- No two arguments share anything.
-  pub answer-apart : (i j : ℕ) → i < j → j < length ks → Apart (getD (places (sheetOf s) ks) i Nowhere) (getD (places (sheetOf s) ks) j Nowhere)
+  pub answer-apart : (i j : ℕ) → i < j → j < length ks
+      → Share (getD (places (sheetOf s) ks) i Nowhere) (getD (places (sheetOf s) ks) j Nowhere) → ⊥
   answer-apart = rules-apart (sheetOf s) (sheet-read s (means .read)) ks (means .below) (means .clean)

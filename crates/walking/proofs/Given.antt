@@ -24,16 +24,15 @@ use Rattle.convention.specs.Rules.{freeRun}
 use Rattle.convention.specs.Lists.{faultFrom, stateFrom, placesFrom}
 use Rattle.convention.specs.Walked.{tablePlace, tableFault, tableAfter, byTable, placeByTable}
 use Rattle.convention.specs.Judged.{KindsBelow}
+use Rattle.convention.specs.WellPlaced.{Share, Right}
 use Rattle.convention.specs.Promised.{TableRead, HeadRead, ShapeRead}
 use Rattle.convention.proofs.Numbers.{or-zero, unless-zero}
-use Rattle.convention.proofs.Offsets.{least-ge, offset-aligned, divides}
+use Rattle.convention.proofs.Offsets.{least-ge, offset-residue, divides}
 use Rattle.convention.proofs.Tables.{table-read, transition-registers, transition-residue, transition-next}
 use Rattle.convention.proofs.Runs.{either}
 use Rattle.places.specs.Ends.{runEnd}
 use Rattle.places.proofs.Accepted.{accepted}
-use Rattle.places.specs.Apart.{Apart}
 use Rattle.places.proofs.Apart.{FreeIn, FromP, StepGives, place-length, apart}
-use Rattle.walking.specs.Right.{Right}
 use Rattle.walking.proofs.Steps.{reach}
 
 -- A step without a fault, with registers and with the stack.
@@ -51,16 +50,16 @@ module _ (h : Head) (kind : TableKind) (x : Transition) (given : List Bool) (e :
       (eqb-true _ _ (unless-zero _ 3 (lit< tt) (both .0)), eqb-true _ 0 (unless-zero _ 4 (lit< tt) (both .1)))
 
   -- Its place is right, its registers are free, and its stack bytes begin at p or behind.
-  step-right : HeadRead h → ShapeRead h (kind .size) (kind .alignment) → (x .form ≡ 2 → x .a < h .modulus)
+  step-right : HeadRead h → ShapeRead h (kind .size) (kind .alignment) → (x .form ≡ 1 → x .a + x .b ≤ h .registers) → (x .form ≡ 2 → x .a < h .modulus)
       → (p : ℕ) → Right h kind (tablePlace h x p)
   unfolding Right tableFault
-  step-right head shape residue p = elim (either (eqb (x .form) 1)) [
-    | inl f ↦ rw f (registers-clean f .1)
+  step-right head shape registers residue p = elim (either (eqb (x .form) 1)) [
+    | inl f ↦ rw f ((λ r has. omega (arith, registers (eqb-true _ 1 f))), registers-clean f .1)
     | inr f ↦ elim (either (eqb (x .form) 2)) [
       | inl g ↦
           let (size, multiple) = stack-clean f g in
           let whole = divides (kind .alignment) (h .modulus) (shape .alignment) (head .modulus) (shape .within) in
-          rw (f, g) (size, offset-aligned (kind .alignment) (h .modulus) (x .a) p (residue (eqb-true _ 2 g)) whole multiple)
+          rw (f, g) (size, offset-residue (kind .alignment) (h .modulus) (x .a) p (residue (eqb-true _ 2 g)) whole ∙ multiple)
       | inr g ↦ absurd (omega (arith, rw (f, g) at e))
     ]
   ]
@@ -126,6 +125,7 @@ module _ (limit : ℕ) (table : Table) (t : List ℕ) (read : TableRead limit ta
     here-right : Right (table .head) (tableKind table k) (byTable table t .place s k)
     here-right =
         step-right (table .head) (tableKind table k) (here s k) (s .given) e (read .head) (read .kind k below)
+        (transition-registers (table .head) (table .states) (here s k) (right s k good below))
         (transition-residue (table .head) (table .states) (here s k) (right s k good below)) (s .p .0)
 
     here-reach : byTable table t .after s k .p .0 ≤ s .p .0 + 79
@@ -162,7 +162,7 @@ module _ (limit : ℕ) (table : Table) (t : List ℕ) (read : TableRead limit ta
     table-right = each-right (byTable table t .begin) ks begin-walking below e
 
     -- No two arguments share a register or a stack byte.
-    pub table-apart : (i j : ℕ) → i < j → j < length ks → Apart (getD places i Nowhere) (getD places j Nowhere)
+    pub table-apart : (i j : ℕ) → i < j → j < length ks → Share (getD places i Nowhere) (getD places j Nowhere) → ⊥
     table-apart =
         apart (byTable table t) (λ s. s .given) (Walking table) (table .head .kinds) (λ s k good h f. table-gives s k good h f)
         (byTable table t .begin) ks begin-walking below e

@@ -2,3 +2,4 @@ pub mod Steps
 pub mod Lists
 pub mod Calls
 pub mod Given
+pub mod WellPlaced

@@ -1,6 +1,6 @@
 -- `answer`: no table needs more room than there is, one that was built can be judged, and each answer is the text that the program prints.
 use borrow.Author.Needs.{needs}
-use Rattle.judge_sheet.proofs.Builds.{bytes-within, bytes-long, table-asks}
+use Rattle.judge_sheet.proofs.Builds.{table-within, table-long, table-asks}
 use Rattle.judge_sheet.proofs.Answers.{refused-room, prints-long, prints-refused, prints-built}
 use Rattle.judge_sheet.proofs.answer.Statement.{statement}
 use Rattle.judge_sheet.proofs.answer.Tie as tie
@@ -27,10 +27,10 @@ enum-known-building : tie.Need-enum-known-building
 enum-known-building c = search needs
 
 array-share-prefix-table : tie.Need-array-share-prefix-table
-array-share-prefix-table c = search (bytes-within, needs)
+array-share-prefix-table c = search (table-within, needs)
 
 slice-aggregate-table-line : tie.Need-slice-aggregate-table-line
-slice-aggregate-table-line c = search (bytes-long, needs)
+slice-aggregate-table-line c = search (table-long, needs)
 
 table-line-requires : tie.Need-table-line-requires
 table-line-requires c κs = search (table-asks, needs)

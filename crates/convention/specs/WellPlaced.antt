@@ -1,0 +1,44 @@
+-- Demand 3 in its own words: when a list of kinds goes right by a table. (The faults of 'Placing by a table' are 01's other way to say it; crates/demands proves that they agree.)
+use Prim.Native.Nat.{ℕ, _+_, _*_, _%_, _≤_, _<_}
+use mathlib.Core.Path.{_≡_}
+use mathlib.Core.Logic.{_⊎_}
+use mathlib.Core.List.{List}
+use lib.ListN.{length, getD}
+use Rattle.convention.specs.declared.Head.{Head}
+use Rattle.convention.specs.declared.TableKind.{TableKind}
+use Rattle.convention.specs.declared.Placement.{Placement}
+use Rattle.convention.specs.declared.Placement.the-variants.{Registers, Stack, Nowhere}
+use Rattle.convention.specs.Tables.{tableKind, tableOf}
+use Rattle.convention.specs.Lists.{placesFrom}
+use Rattle.convention.specs.Walked.{byTable}
+
+-- Register r is one of a place's.
+abbrev pub HasRegister : Placement → ℕ → Type 0
+HasRegister (Registers first count) r = (first .0 ≤ r) × (r < first .0 + count)
+HasRegister (Stack offset count) r = ⊥
+HasRegister Nowhere r = ⊥
+
+-- Stack byte x is one of a place's.
+abbrev pub HasByte : Placement → ℕ → Type 0
+HasByte (Registers first count) x = ⊥
+HasByte (Stack offset count) x = (offset .0 ≤ x) × (x < offset .0 + count)
+HasByte Nowhere x = ⊥
+
+-- Two places share a register or a stack byte.
+abbrev pub Share : Placement → Placement → Type 0
+Share a b = ((r : ℕ) × HasRegister a r × HasRegister b r) ⊎ ((x : ℕ) × HasByte a x × HasByte b x)
+
+-- A place that is right for a kind: registers, all of them below n, that hold at least its size; or exactly its size of stack bytes, at a multiple of its alignment.
+unfoldable pub Right : Head → TableKind → Placement → Type 0
+Right h kind (Registers first count) = ((r : ℕ) → HasRegister (Registers first count) r → r < h .registers) × (kind .size ≤ count * h .width)
+Right h kind (Stack offset count) = (count ≡ kind .size) × (offset .0 % kind .alignment ≡ 0)
+Right h kind Nowhere = ⊥
+
+-- The place that the table t gives argument i of a list.
+abbrev pub placeOf : List ℕ → List ℕ → ℕ → Placement
+placeOf t ks i = getD (placesFrom (byTable (tableOf t) t) (byTable (tableOf t) t .begin) ks) i Nowhere
+
+-- The list goes right: each argument finds a place that is right for its kind, and no two arguments share a register or a stack byte.
+pub record WellPlaced (t ks : List ℕ) : Type 0 where
+  pub right : (i : ℕ) → i < length ks → Right (tableOf t .head) (tableKind (tableOf t) (getD ks i 0)) (placeOf t ks i)
+  pub apart : (i j : ℕ) → i < j → j < length ks → Share (placeOf t ks i) (placeOf t ks j) → ⊥

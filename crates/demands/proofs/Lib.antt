@@ -1,0 +1,5 @@
+pub mod Tests
+pub mod Placing
+pub mod Reading
+pub mod Others
+pub mod Demands
