@@ -1,21 +1,16 @@
 -- 01's other examples: what the definitions of crates/convention give is what document 01 says. By computation.
 use mathlib.Core.Path.{_≡_, refl}
-use mathlib.Core.List.{[], _∷_, map}
+use mathlib.Core.List.{map}
 use Rattle.convention.specs.Numbers.{stateLimit}
 use Rattle.convention.specs.Bytes.{blocks}
 use Rattle.convention.specs.Fields.{headOf, headNo, shapeNo}
 use Rattle.convention.specs.Sheets.{startsNo, sheetKindNo, sheetKindOf, sheetKindsNo, sheetKindsOf, sheetKindsLength, sheetNo, sheetOf}
-use Rattle.convention.specs.Tables.{tableKindOf, tableKindsOf, tableOf}
 use Rattle.convention.specs.Offsets.{leastOffset}
-use Rattle.convention.specs.Lists.{faultFrom}
 use Rattle.convention.specs.Rules.{freeRun, markRuns, leftBefore, rulesPlace, rulesAfter}
-use Rattle.convention.specs.Walked.{tableFault, tableAfter}
 use Rattle.convention.specs.Explored.{number, meet, metFrom, through, met}
-use Rattle.convention.specs.Built.{sameFlags, builtTransition, builtRow, builtBody, tableOfStates, builtTable, buildNo, build}
-use Rattle.convention.specs.Judged.{eachKind, listsOf, listsUpTo, firstFault, verdictByTrying}
-use Rattle.convention.specs.Program.{digitsIn, decimal, kindFields, refusedLine, verdictFields, line}
-use Rattle.cases.specs.Cases.{simple, stacklessDouble}
-use Rattle.cases.specs.Examples.{BuildCase, buildCases, tableLength, lastStates, statesFrom, lineOf, cleanVerdict, cleanLine, faultLine, refusedOne}
+use Rattle.convention.specs.Built.{sameFlags, builtTransition, builtRow, builtBody, tableOfStates, buildNo, build}
+use Rattle.cases.specs.Cases.{simple}
+use Rattle.cases.specs.Examples.{BuildCase, buildCases, tableLength, lastStates, statesFrom}
 
 pub builds-hold : map (λ (c : BuildCase). build stateLimit (c .sheet) tableLength) buildCases ≡ map (λ (c : BuildCase). c .gives) buildCases
 unfolding headOf headNo shapeNo startsNo sheetKindNo sheetKindOf sheetKindsNo sheetKindsOf sheetKindsLength sheetNo sheetOf leastOffset freeRun markRuns leftBefore rulesPlace rulesAfter blocks number meet metFrom through met sameFlags builtTransition builtRow builtBody tableOfStates buildNo build
@@ -24,10 +19,3 @@ builds-hold = refl
 pub states-hold : statesFrom 4 simple ≡ lastStates
 unfolding headOf sheetKindOf sheetKindsOf sheetOf leastOffset freeRun markRuns leftBefore rulesPlace rulesAfter number meet metFrom through met sameFlags
 states-hold = refl
-
--- The lines, one behind the other.
-pub lines-hold : lineOf simple cleanVerdict ∷ lineOf stacklessDouble (verdictByTrying (builtTable stateLimit (sheetOf stacklessDouble)))
-    ∷ lineOf (0x00 ∷ []) cleanVerdict ∷ []
-    ≡ cleanLine ∷ faultLine ∷ refusedOne ∷ []
-unfolding headOf headNo shapeNo startsNo sheetKindNo sheetKindOf sheetKindsNo sheetKindsOf sheetKindsLength sheetNo sheetOf tableKindOf tableKindsOf tableOf leastOffset faultFrom freeRun markRuns leftBefore rulesPlace rulesAfter tableFault tableAfter blocks number meet metFrom through met sameFlags builtTransition builtRow builtBody tableOfStates buildNo build eachKind listsOf listsUpTo firstFault verdictByTrying digitsIn decimal kindFields refusedLine verdictFields line
-lines-hold = refl

@@ -1,16 +1,37 @@
--- P1 to P12 as one statement: what the definitions of crates/convention give for each case is what document 01 says. By computation.
+-- P1 to P12 as one statement: what the definitions of crates/convention give for each case is what document 01 says. By computation. So are the cases that settle more.
 use mathlib.Core.Path.{_≡_, refl}
-use mathlib.Core.List.{map}
+use mathlib.Core.List.{[], _∷_, map}
 use Rattle.convention.specs.Fields.{headOf, headNo, shapeNo}
 use Rattle.convention.specs.Sheets.{startsNo, sheetKindNo, sheetKindOf, sheetKindsNo, sheetKindsOf, sheetKindsLength, sheetNo, sheetOf}
-use Rattle.convention.specs.Tables.{tableKindOf, tableKindsNo, tableKindsOf, transitionNo, transitionsNo, tableNo, tableOf}
+use Rattle.convention.specs.Tables.{tableKindOf, tableKindsNo, tableKindsOf, transitionNo, transitionsNo, tableNo, tableOf, rowNo, row}
 use Rattle.convention.specs.Offsets.{leastOffset}
 use Rattle.convention.specs.Lists.{faultFrom, stopFrom, stateFrom, placesFrom, recordsOf, unknownAt, placing, placingMemory}
 use Rattle.convention.specs.Rules.{freeRun, markRuns, leftBefore, rulesPlace, rulesAfter, placeByRules, rulesMemory}
 use Rattle.convention.specs.Walked.{tableFault, tableAfter, placeByTable, tableMemory}
 use Rattle.convention.specs.Judged.{eachKind, listsOf, listsUpTo, firstFault, verdictByTrying}
-use Rattle.cases.specs.Cases.{Case, cases, comesOf}
+use Rattle.cases.specs.Readings.{asDefined, skippedGone, forgetsP, stopsAtN, alignmentFirst, lengthOfAll}
+use Rattle.cases.specs.Cases.{Given, byRulesIn, byTableIn, judge, askRow, comesOf, defined, reader, Case, cases, sameBytes, failing}
+use Rattle.cases.specs.Settled.{settled}
 
-pub cases-hold : map (λ (c : Case). comesOf (c .given)) cases ≡ map (λ (c : Case). c .says) cases
-unfolding comesOf headOf headNo shapeNo startsNo sheetKindNo sheetKindOf sheetKindsNo sheetKindsOf sheetKindsLength sheetNo sheetOf tableKindOf tableKindsNo tableKindsOf transitionNo transitionsNo tableNo tableOf leastOffset faultFrom stopFrom stateFrom placesFrom recordsOf unknownAt placing placingMemory freeRun markRuns leftBefore rulesPlace rulesAfter placeByRules rulesMemory tableFault tableAfter placeByTable tableMemory eachKind listsOf listsUpTo firstFault verdictByTrying
+pub cases-hold : map (λ (c : Case). comesOf reader (c .given)) cases ≡ map (λ (c : Case). c .says) cases
+unfolding comesOf headOf headNo shapeNo startsNo sheetKindNo sheetKindOf sheetKindsNo sheetKindsOf sheetKindsLength sheetNo sheetOf tableKindOf tableKindsNo tableKindsOf transitionNo transitionsNo tableNo tableOf rowNo row leastOffset faultFrom stopFrom stateFrom placesFrom recordsOf unknownAt placing placingMemory freeRun markRuns leftBefore rulesPlace rulesAfter tableFault tableAfter eachKind listsOf listsUpTo firstFault
 cases-hold = refl
+
+pub settled-hold : map (λ (c : Case). comesOf reader (c .given)) settled ≡ map (λ (c : Case). c .says) settled
+unfolding comesOf headOf headNo shapeNo startsNo sheetKindNo sheetKindOf sheetKindsNo sheetKindsOf sheetKindsLength sheetNo sheetOf tableKindOf tableKindsNo tableKindsOf transitionNo transitionsNo tableNo tableOf rowNo row leastOffset faultFrom stopFrom stateFrom placesFrom recordsOf unknownAt placing placingMemory freeRun markRuns leftBefore rulesPlace rulesAfter tableFault tableAfter eachKind listsOf listsUpTo firstFault
+settled-hold = refl
+
+-- The misreadings that 01 names, and some others: by which of P1 to P12 each is caught.
+pub misread-caught :
+    (failing skippedGone 1 cases ≡ 4 ∷ []) × (failing forgetsP 1 cases ≡ 2 ∷ 3 ∷ 4 ∷ 5 ∷ []) × (failing stopsAtN 1 cases ≡ 8 ∷ [])
+    × (failing alignmentFirst 1 cases ≡ 12 ∷ []) × (failing lengthOfAll 1 cases ≡ 1 ∷ 2 ∷ 3 ∷ 4 ∷ 5 ∷ 6 ∷ 7 ∷ [])
+unfolding failing sameBytes comesOf headOf headNo shapeNo startsNo sheetKindNo sheetKindOf sheetKindsNo sheetKindsOf sheetKindsLength sheetNo sheetOf tableKindOf tableKindsNo tableKindsOf transitionNo transitionsNo tableNo tableOf rowNo row leastOffset faultFrom stopFrom stateFrom placesFrom recordsOf unknownAt placing placingMemory freeRun markRuns leftBefore rulesPlace rulesAfter tableFault tableAfter eachKind listsOf listsUpTo firstFault
+misread-caught = (refl, refl, refl, refl, refl)
+
+-- The cases speak of the definitions that the public calls' contracts cite.
+pub as-defined : (g : Given) → comesOf asDefined g ≡ defined g
+unfolding comesOf placeByRules rulesMemory placeByTable tableMemory verdictByTrying
+as-defined (byRulesIn s ks lent) = refl
+as-defined (byTableIn t ks lent) = refl
+as-defined (judge t) = refl
+as-defined (askRow t state) = refl

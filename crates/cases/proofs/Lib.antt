@@ -1,2 +1,4 @@
 pub mod Hold
+pub mod Judged
 pub mod Computed
+pub mod Printed

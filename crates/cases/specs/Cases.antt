@@ -1,38 +1,69 @@
 -- Document 01, 'Examples to settle the reading': P1 to P12, each through bytes. What stands here is 01's text; proofs/Hold.antt holds the definitions to it.
 use Prim.Native.Nat.{ℕ, zero, suc, _+_, _*_}
+use mathlib.Core.Bool.{Bool, true, false, _&&_}
 use mathlib.Core.List.{List, [], _∷_, _++_}
+use lib.Dec.{eqb}
 use lib.ListN.{length, replicate}
 use Rattle.convention.specs.Numbers.{Said, refusal, stateLimit, argumentLimit, placingSays, judgingSays}
-use Rattle.convention.specs.Tables.{tableNo}
-use Rattle.convention.specs.Lists.{recordLength}
+use Rattle.convention.specs.Sheets.{sheetOf}
+use Rattle.convention.specs.Tables.{tableNo, tableOf, rowNo, row}
+use Rattle.convention.specs.Lists.{Steps, recordLength, placing, placingMemory}
 use Rattle.convention.specs.Rules.{placeByRules, rulesMemory}
-use Rattle.convention.specs.Judged.{Verdict, verdictByTrying}
+use Rattle.convention.specs.Walked.{placeByTable, tableMemory}
+use Rattle.convention.specs.Judged.{listsUpTo, Verdict, firstFault, verdictByTrying}
+use Rattle.cases.specs.Readings.{Reading, asDefined}
 
--- A case: a sheet's bytes and a list to place by its rules, or a table's bytes to judge.
+-- A case: a list to place by the rules of a sheet or by a table, with the lent memory; a table to judge; a row to ask for.
 pub data Given : Type 0 where
-  place : List ℕ → List ℕ → Given
-  judge : List ℕ → Given
+  byRulesIn : (sheet kinds lent : List ℕ) → Given
+  byTableIn : (table kinds lent : List ℕ) → Given
+  judge : (table : List ℕ) → Given
+  askRow : (table : List ℕ) (state : ℕ) → Given
 
--- What comes of it: what is said in 01's numbers, and the bytes: the lent memory after placing, or the list of a verdict.
+-- What comes of it: what is said in 01's numbers, and the bytes: the lent memory after placing, the list of a verdict, or the row.
 pub record Outcome : Type 0 where
   pub said : Said
   pub bytes : List ℕ
 
 -- Lent memory of the needed room; each byte holds 255 before.
-abbrev pub lent : List ℕ → List ℕ
-lent ks = replicate (recordLength * length ks) 255
+abbrev pub lentFor : List ℕ → List ℕ
+lentFor ks = replicate (recordLength * length ks) 255
+
+abbrev pub place : List ℕ → List ℕ → Given
+place s ks = byRulesIn s ks (lentFor ks)
+
+-- A list that is placed, one way or the other, by a convention of m kinds, of which reading gave a number.
+abbrev pub placedBy : ℕ → ℕ → Steps → List ℕ → List ℕ → Outcome
+placedBy number m M ks lent = record {
+  said = placingSays (placing argumentLimit number m M ks (length lent));
+  bytes = placingMemory (placing argumentLimit number m M ks (length lent)) M ks lent;
+}
 
 -- A table that cannot be read is refused; any other gets its verdict.
 abbrev pub judged : ℕ → Verdict → Outcome
 judged zero verdict = record { said = judgingSays (verdict .answer); bytes = verdict .list }
 judged (suc number) verdict = record { said = refusal (suc number); bytes = [] }
 
-unfoldable pub comesOf : Given → Outcome
-comesOf (place s ks) = record {
-  said = placingSays (placeByRules argumentLimit s ks (length (lent ks)));
-  bytes = rulesMemory argumentLimit s ks (lent ks);
+-- What comes of a case for a reader.
+unfoldable pub comesOf : Reading → Given → Outcome
+comesOf r (byRulesIn s ks lent) = placedBy (r .number s) (sheetOf s .head .kinds) (r .rules (sheetOf s)) ks lent
+comesOf r (byTableIn t ks lent) = placedBy (tableNo stateLimit t) (tableOf t .head .kinds) (r .table (tableOf t) t) ks lent
+comesOf r (judge t) = judged (tableNo stateLimit t) (firstFault (r .table (tableOf t) t) (listsUpTo (tableOf t .head .kinds) (r .hunted t)))
+comesOf r (askRow t state) = record { said = refusal (rowNo stateLimit t state); bytes = row stateLimit t state }
+
+-- What the definitions say of it that the public calls' contracts cite.
+abbrev pub defined : Given → Outcome
+defined (byRulesIn s ks lent) = record { said = placingSays (placeByRules argumentLimit s ks (length lent)); bytes = rulesMemory argumentLimit s ks lent }
+defined (byTableIn t ks lent) = record {
+  said = placingSays (placeByTable stateLimit argumentLimit t ks (length lent));
+  bytes = tableMemory stateLimit argumentLimit t ks lent;
 }
-comesOf (judge t) = judged (tableNo stateLimit t) (verdictByTrying t)
+defined (judge t) = judged (tableNo stateLimit t) (verdictByTrying t)
+defined (askRow t state) = record { said = refusal (rowNo stateLimit t state); bytes = row stateLimit t state }
+
+-- The reader whom the cases hold for.
+abbrev pub reader : Reading
+reader = asDefined
 
 -- Sheet S: its head, char and int, and then double, whose bytes some cases change. The length counts the bytes after it.
 abbrev pub withDouble : ℕ → List ℕ → List ℕ
@@ -81,7 +112,7 @@ abbrev pub placed : ℕ → ℕ → List ℕ → Outcome
 placed count p bytes = record { said = record { number = 0; fault = 0; count = count; value = p }; bytes = bytes }
 
 abbrev pub refused : ℕ → ℕ → ℕ → List ℕ → Outcome
-refused number position fault ks = record { said = record { number = number; fault = fault; count = position; value = 0 }; bytes = lent ks }
+refused number position fault ks = record { said = record { number = number; fault = fault; count = position; value = 0 }; bytes = lentFor ks }
 
 abbrev pub clean : Outcome
 clean = record { said = record { number = 0; fault = 0; count = 0; value = 0 }; bytes = [] }
@@ -116,3 +147,19 @@ cases =
     ∷ (judge (oneTransition 2 2 4 0) ⟹ goesWrong 4 (0 ∷ []))
     ∷ (judge (oneTransition 2 2 3 0) ⟹ goesWrong 3 (0 ∷ []))
     ∷ []
+
+-- Whether a case holds for a reader, and the numbers of those that do not, from 1 on.
+unfoldable pub sameBytes : List ℕ → List ℕ → Bool
+sameBytes [] [] = true
+sameBytes [] (y ∷ ys) = false
+sameBytes (x ∷ xs) [] = false
+sameBytes (x ∷ xs) (y ∷ ys) = eqb x y && sameBytes xs ys
+
+abbrev pub sameOutcome : Outcome → Outcome → Bool
+sameOutcome a b =
+    eqb (a .said .number) (b .said .number) && eqb (a .said .fault) (b .said .fault) && eqb (a .said .count) (b .said .count)
+    && eqb (a .said .value) (b .said .value) && sameBytes (a .bytes) (b .bytes)
+
+unfoldable pub failing : Reading → ℕ → List Case → List ℕ
+failing r i [] = []
+failing r i (c ∷ cs) = elim (sameOutcome (comesOf r (c .given)) (c .says)) [ true ↦ failing r (suc i) cs | false ↦ i ∷ failing r (suc i) cs ]

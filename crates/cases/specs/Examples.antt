@@ -6,14 +6,11 @@ use mathlib.Core.Bool.{true, false}
 use lib.ListN.{drop, replicate}
 use Rattle.convention.specs.declared.Building.{Building}
 use Rattle.convention.specs.declared.Building.the-variants.{Built}
-use Rattle.convention.specs.declared.Judging.the-variants.{Clean}
 use Rattle.convention.specs.declared.Allocation.{Allocation}
 use Rattle.convention.specs.Numbers.{stateLimit}
 use Rattle.convention.specs.Sheets.{sheetOf}
 use Rattle.convention.specs.Explored.{Entry}
-use Rattle.convention.specs.Built.{allocations, builtStates, build}
-use Rattle.convention.specs.Judged.{Verdict}
-use Rattle.convention.specs.Program.{line}
+use Rattle.convention.specs.Built.{allocations, builtStates}
 use Rattle.cases.specs.Cases.{simple, stacklessDouble}
 
 -- 'the table is 158 bytes': the room that building is given.
@@ -48,18 +45,11 @@ lastStates = map full (0 ∷ 1 ∷ 4 ∷ 2 ∷ 5 ∷ 3 ∷ 6 ∷ 7 ∷ [])
 abbrev pub statesFrom : ℕ → List ℕ → List Allocation
 statesFrom i s = map (λ (e : Entry (allocations (sheetOf s))). e .node) (drop i (builtStates stateLimit (sheetOf s)))
 
--- The line of a sheet's table with a verdict.
-abbrev pub lineOf : List ℕ → Verdict → List ℕ
-lineOf s verdict = line (build stateLimit s tableLength) (sheetOf s .head .kinds) (verdict .answer) (verdict .list)
-
--- `12 3 clean`, for S. (It has too many lists to find the verdict by trying.)
-abbrev pub cleanVerdict : Verdict
-cleanVerdict = record { answer = Clean; list = [] }
-
+-- `12 3 clean`, for S.
 abbrev pub cleanLine : List ℕ
 cleanLine = 49 ∷ 50 ∷ 32 ∷ 51 ∷ 32 ∷ 99 ∷ 108 ∷ 101 ∷ 97 ∷ 110 ∷ 10 ∷ []
 
--- `12 3 fault 1 3 0 2 2`, for S with flag 0 on double; the verdict is found by trying.
+-- `12 3 fault 1 3 0 2 2`, for S with flag 0 on double.
 abbrev pub faultLine : List ℕ
 faultLine =
     49 ∷ 50 ∷ 32 ∷ 51 ∷ 32 ∷ 102 ∷ 97 ∷ 117 ∷ 108 ∷ 116 ∷ 32 ∷ 49 ∷ 32 ∷ 51 ∷ 32 ∷ 48 ∷ 32 ∷ 50 ∷ 32 ∷ 50 ∷ 10 ∷ []

@@ -1,2 +1,5 @@
+pub mod Readings
 pub mod Cases
+pub mod Settled
+pub mod Meant
 pub mod Examples

@@ -1,0 +1,85 @@
+-- How a reader takes document 01, as far as P1 to P12 go through it: as the definitions say it, or by one of the misreadings that 01 names.
+use Prim.Native.Nat.{ℕ, _+_, _%_}
+use mathlib.Core.List.{List, map}
+use lib.Dec.{eqb}
+use lib.ListN.{length}
+use Rattle.convention.specs.declared.Sheet.{Sheet}
+use Rattle.convention.specs.declared.SheetKind.{SheetKind}
+use Rattle.convention.specs.declared.Table.{Table}
+use Rattle.convention.specs.Numbers.{orElse, unless}
+use Rattle.convention.specs.Fields.{lengthField}
+use Rattle.convention.specs.Sheets.{sheetNo}
+use Rattle.convention.specs.Tables.{tableOf, tableKind, transition}
+use Rattle.convention.specs.Lists.{Steps}
+use Rattle.convention.specs.Rules.{byRules}
+use Rattle.convention.specs.Walked.{byTable}
+use Rattle.convention.specs.Built.{allocation, fromAllocation}
+use Rattle.convention.specs.Judged.{judgeRoom}
+
+-- The number of a sheet, the two ways of placing, and how many kinds the lists have at most among which a faulty one is looked for.
+pub record Reading : Type 1 where
+  pub number : List ℕ → ℕ
+  pub rules : Sheet → Steps
+  pub table : Table → List ℕ → Steps
+  pub hunted : List ℕ → ℕ
+
+-- As the definitions say it.
+abbrev pub asDefined : Reading
+asDefined = record { number = sheetNo; rules = byRules; table = byTable; hunted = judgeRoom }
+
+-- 'Treating a register once skipped as gone although the kind does not close': every kind is read as closing.
+abbrev pub closes : SheetKind → SheetKind
+closes k = record { size = k .size; alignment = k .alignment; flags = k .flags % 2 + 2; tries = k .tries; starts = k .starts }
+
+abbrev pub skippedGone : Reading
+skippedGone = record {
+  number = sheetNo;
+  rules = λ sheet. byRules (record { head = sheet .head; kinds = map closes (sheet .kinds) });
+  table = byTable;
+  hunted = judgeRoom;
+}
+
+-- 'Keeping p mod A and forgetting p'.
+abbrev pub forgetsP : Reading
+forgetsP = record {
+  number = sheetNo;
+  rules = λ sheet. record {
+    State = byRules sheet .State;
+    begin = byRules sheet .begin;
+    place = byRules sheet .place;
+    fault = byRules sheet .fault;
+    after = λ s k. fromAllocation (allocation (sheet .head .modulus) (byRules sheet .after s k));
+    p = byRules sheet .p;
+  };
+  table = byTable;
+  hunted = judgeRoom;
+}
+
+-- 'Stopping at N arguments when hunting'.
+abbrev pub stopsAtN : Reading
+stopsAtN = record { number = sheetNo; rules = byRules; table = byTable; hunted = λ t. tableOf t .states }
+
+-- Fault 4 looked for before fault 3.
+abbrev pub alignmentFirst : Reading
+alignmentFirst = record {
+  number = sheetNo;
+  rules = byRules;
+  table = λ table t. record {
+    State = byTable table t .State;
+    begin = byTable table t .begin;
+    place = byTable table t .place;
+    fault = λ s k. orElse (unless (eqb (transition table t (s .state) k .a % tableKind table k .alignment) 0) 4) (byTable table t .fault s k);
+    after = byTable table t .after;
+    p = byTable table t .p;
+  };
+  hunted = judgeRoom;
+}
+
+-- The length field taken for the count of all bytes, its own two included.
+abbrev pub lengthOfAll : Reading
+lengthOfAll = record {
+  number = λ s. orElse (unless (eqb (lengthField s) (length s)) 1) (sheetNo s);
+  rules = byRules;
+  table = byTable;
+  hunted = judgeRoom;
+}

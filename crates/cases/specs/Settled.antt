@@ -1,0 +1,52 @@
+-- Document 01, 'Answer numbers' and the order of faults: examples that settle more of the reading, like P1 to P12. proofs/Hold.antt holds the definitions to them.
+use Prim.Native.Nat.{ℕ}
+use mathlib.Core.List.{List, [], _∷_, _++_}
+use lib.ListN.{replicate}
+use Rattle.convention.specs.Numbers.{refusal}
+use Rattle.cases.specs.Cases.{byRulesIn, byTableIn, askRow, Outcome, place, lentFor, simple, stacklessDouble, oneTransition, char, int, double, Case, _⟹_}
+
+-- A kind that S does not have.
+abbrev pub unknown : ℕ
+unknown = 3
+
+-- A refusal that leaves the lent memory as it was.
+abbrev pub refuses : ℕ → ℕ → ℕ → List ℕ → Outcome
+refuses number position fault lent = record { said = record { number = number; fault = fault; count = position; value = 0 }; bytes = lent }
+
+-- 401 arguments, the last of an unknown kind.
+abbrev pub tooMany : List ℕ
+tooMany = replicate 400 char ++ unknown ∷ []
+
+-- char, double and double of the sheet whose double has no stack, and then an unknown kind: position 2 has no place, position 3 is unknown.
+abbrev pub bothWrong : List ℕ
+bothWrong = char ∷ double ∷ double ∷ unknown ∷ []
+
+-- n = 1, w = A = 4, kinds of 4 and of 8 bytes, both given register 0 in the one state.
+abbrev pub shared : List ℕ
+shared = 0x00 ∷ 0x12 ∷ 0x01 ∷ 0x01 ∷ 0x04 ∷ 0x04 ∷ 0x02 ∷ 0x04 ∷ 0x04 ∷ 0x08 ∷ 0x04 ∷ 0x01 ∷ 0x01 ∷ 0x00 ∷ 0x01 ∷ 0x00 ∷ 0x01 ∷ 0x00 ∷ 0x01 ∷ 0x00 ∷ []
+
+-- A table whose one transition is of form 9, and the same without its last byte.
+abbrev pub wrongForm : List ℕ
+wrongForm = oneTransition 9 0 0 0
+
+abbrev pub wrongFormCut : List ℕ
+wrongFormCut = 0x00 ∷ 0x0B ∷ 0x01 ∷ 0x01 ∷ 0x04 ∷ 0x04 ∷ 0x01 ∷ 0x04 ∷ 0x04 ∷ 0x01 ∷ 9 ∷ 0 ∷ 0 ∷ []
+
+abbrev pub settled : List Case
+settled =
+    -- 'placing: 8, 12, 9, 10': each before those behind it.
+    (byRulesIn simple tooMany [] ⟹ refuses 8 0 0 [])
+    ∷ (byRulesIn stacklessDouble bothWrong (255 ∷ []) ⟹ refuses 12 0 0 (255 ∷ []))
+    -- 'so that 9 anywhere in the list comes before 10'.
+    ∷ (place stacklessDouble bothWrong ⟹ refuses 9 3 0 (lentFor bothWrong))
+    ∷ (place stacklessDouble (char ∷ double ∷ double ∷ int ∷ []) ⟹ refuses 10 2 1 (lentFor (char ∷ double ∷ double ∷ int ∷ [])))
+    -- Fault 2 before fault 3: the second argument's register was given, and is too small for it; alone it has fault 3.
+    ∷ (byTableIn shared (0 ∷ 1 ∷ []) (lentFor (0 ∷ 1 ∷ [])) ⟹ refuses 10 1 2 (lentFor (0 ∷ 1 ∷ [])))
+    ∷ (byTableIn shared (1 ∷ []) (lentFor (1 ∷ [])) ⟹ refuses 10 0 3 (lentFor (1 ∷ [])))
+    -- Number 7 'when its four bytes are there', and 3 where one is missing.
+    ∷ (byTableIn wrongForm [] [] ⟹ refuses 7 0 0 [])
+    ∷ (byTableIn wrongFormCut [] [] ⟹ refuses 3 0 0 [])
+    -- Number 13, with the empty part; and the row of the one state that there is.
+    ∷ (askRow (oneTransition 2 0 4 0) 1 ⟹ refuses 13 0 0 [])
+    ∷ (askRow (oneTransition 2 0 4 0) 0 ⟹ record { said = refusal 0; bytes = 2 ∷ 0 ∷ 4 ∷ 0 ∷ [] })
+    ∷ []
