@@ -60,12 +60,16 @@ unfoldable pub unknownAt : ℕ → List ℕ → ℕ
 unknownAt m [] = 0
 unknownAt m (k ∷ ks) = elim (ltb k m) [ true ↦ suc (unknownAt m ks) | false ↦ 0 ]
 
+-- 'Then, placing: 8, 12, ..': the number of so many arguments with so much room, before any kind is looked at.
+abbrev pub listNo : ℕ → ℕ → ℕ → ℕ
+listNo limit arguments room = orElse (unless (leb arguments limit) 8) (unless (leb (recordLength * arguments) room) 12)
+
 -- Number 10, or success with the number of arguments and the final p.
 abbrev pub walkAnswer : ℕ → ℕ → ℕ → Offset → Placing
 walkAnswer zero stop n p = Placed n p
 walkAnswer (suc fault) stop n p = Faulty stop (suc fault)
 
--- 'Then, placing: 8, 12, 9, 10, so that 9 anywhere in the list comes before 10', behind the number that reading gave.
+-- '.. 9, 10, so that 9 anywhere in the list comes before 10', behind the number of all that comes first.
 abbrev pub placingAnswer : ℕ → ℕ → (M : Steps) → List ℕ → Placing
 placingAnswer zero m M ks =
     cond (ltb (unknownAt m ks) (length ks)) (Unknown (unknownAt m ks))
@@ -74,8 +78,7 @@ placingAnswer (suc number) m M ks = Placing.Refused (suc number)
 
 -- The answer of placing the list ks of a convention of m kinds, of which reading gave a number, with so much room.
 unfoldable pub placing : ℕ → ℕ → ℕ → (M : Steps) → List ℕ → ℕ → Placing
-placing limit number m M ks room =
-    placingAnswer (orElse number (orElse (unless (leb (length ks) limit) 8) (unless (leb (recordLength * length ks) room) 12))) m M ks
+placing limit number m M ks room = placingAnswer (orElse number (listNo limit (length ks) room)) m M ks
 
 -- 'Success writes the records and leaves the bytes behind them'; a refusal 'leaves lent memory untouched'.
 abbrev pub records : (M : Steps) → List ℕ → List ℕ

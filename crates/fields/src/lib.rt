@@ -3,7 +3,7 @@
 use convention::Head;
 ghost use mathlib.Core.Path.{_≡_};
 ghost use lib.ListN.{getD};
-ghost use Rattle.convention.specs.Numbers.{orElse};
+ghost use Rattle.convention.specs.Numbers.{orElse, unless as unlessPasses};
 ghost use Rattle.convention.specs.Fields.{fieldNo, lengthNo, headOf, headNo, openingNo, isWidth, isModulus, isAlignment, shapeNo, leftOverNo};
 
 // The byte at k, 0 where there is none.
@@ -18,6 +18,13 @@ pub fn or_else(first: u8, later: u8) -> u8
     ensures { λ r. ⌜ r ≡ orElse first later ⌝ }
 {
     if first == 0 { later } else { first }
+}
+
+// The number of one test: 0 where it passes.
+pub fn unless(passes: bool, number: u8) -> u8
+    ensures { λ r. ⌜ r ≡ unlessPasses passes number ⌝ }
+{
+    if passes { 0 } else { number }
 }
 
 // The number of the field at k: 3 where its byte is missing, `wrong` where its value is not right.

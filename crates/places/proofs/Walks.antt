@@ -1,20 +1,24 @@
 -- One turn of each walk over a list, and each way to the answer, over either way of placing: what is left of the list answers the whole.
-use Prim.Native.Nat.{ℕ, zero, suc, _+_, _*_, _≤_, _<_}
+use Prim.Native.Nat.{ℕ, zero, suc, _+_, _*_, _/_, _≤_, _<_}
 use mathlib.Core.Path.{_≡_, refl, sym, ap, _∙_}
 use mathlib.Core.List.{List, _++_, append-assoc}
 use native.Mathlib.Omega.{arith}
 use native.Mathlib.Nat.{zero-add, le-refl}
+use native.Mathlib.Decide.{decLe}
+use lib.Dec.{leb, lit<}
 use lib.ListN.{length, getD, take, drop}
 use lib.Seq.{take-add, take-all, drop-drop, take-at, drop-at, length-take-le}
-use borrow.Author.Tests.{lt-leb, le-leb, lt-ltb, le-ltb}
+use borrow.Author.Tests.{lt-leb, le-leb, lt-ltb, le-ltb, leb-true}
 use Rattle.convention.specs.declared.Offset.{Offset}
 use Rattle.convention.specs.declared.Placement.{Placement}
 use Rattle.convention.specs.declared.Placing.{Placing}
 use Rattle.convention.specs.declared.Placing.the-variants.{Placed, Unknown, Faulty}
+use Rattle.convention.specs.Numbers.{orElse, unless}
 use Rattle.convention.specs.Bytes.{written}
-use Rattle.convention.specs.Lists.{Steps, placesFrom, recordOf, recordsOf, recordLength, records, unknownAt, placing, placingMemory}
+use Rattle.convention.specs.Lists.{Steps, placesFrom, recordOf, recordsOf, recordLength, records, unknownAt, listNo, placing, placingMemory}
 use Rattle.convention.proofs.Lists.{fault-turn, fault-hit, fault-end, stop-turn, stop-hit, stop-end, state-turn, state-end, records-turn, record-length, records-length, places-length}
-use Rattle.places.specs.Walks.{WalkIs, WalkLeft, WriteLeft, recordsBefore, PlacingIs}
+use Rattle.convention.proofs.Numbers.{or-zero, unless-zero}
+use Rattle.places.specs.Walks.{WalkIs, WalkLeft, WriteLeft, recordsBefore, ListNo, PlacingIs}
 
 -- One more run written behind the first n bytes of R, which stand in front.
 pasted : (R before : List ℕ) (n : ℕ) (bs rest : List ℕ) → n ≤ length R → drop n R ≡ bs ++ rest
@@ -97,35 +101,58 @@ module _ (M : Steps) (ks : List ℕ) where
 
   -- The answer, in 01's order: 8, 12, 9, 10, or success.
   module _ (limit m : ℕ) (before : List ℕ) where
-    pub too-many : limit < length ks → PlacingIs limit m M ks before (Placing.Refused 8) before
+    pub list-refused : (number : ℕ) → ListNo limit (length ks) (length before) number → (number ≡ 0 → ⊥)
+        → PlacingIs limit m M ks before (Placing.Refused number) before
     unfolding placing placingMemory
-    too-many h = record { answers = rw (lt-leb _ _ h); memory = refl }
+    list-refused zero tests some = absurd (some refl)
+    list-refused (suc number) tests some = record { answers = rw (← tests .is); memory = refl }
 
-    pub too-short : length ks ≤ limit → length before < recordLength * length ks → PlacingIs limit m M ks before (Placing.Refused 12) before
-    unfolding placing placingMemory
-    too-short h r = record { answers = rw (le-leb _ _ h, lt-leb _ _ r); memory = refl }
+    -- The first two tests passed.
+    module _ (number : ℕ) (tests : ListNo limit (length ks) (length before) number) (z : number ≡ 0) where
+      passed : listNo limit (length ks) (length before) ≡ 0
+      passed = sym (tests .is) ∙ z
 
-    pub unknown-kind : (at : ℕ) → length ks ≤ limit → recordLength * length ks ≤ length before → at ≡ unknownAt m ks → at < length ks
-        → PlacingIs limit m M ks before (Unknown at) before
-    unfolding placing placingMemory
-    unknown-kind at h r e u = record { answers = rw (le-leb _ _ h, le-leb _ _ r, ← e, lt-ltb _ _ u); memory = refl }
+      pub unknown-kind : (at : ℕ) → at ≡ unknownAt m ks → at < length ks → PlacingIs limit m M ks before (Unknown at) before
+      unfolding placing placingMemory
+      unknown-kind at e u = record { answers = rw (passed, ← e, lt-ltb _ _ u); memory = refl }
 
-    pub faulty : (at stop : ℕ) (fault : ℕ) (p : Offset) → length ks ≤ limit → recordLength * length ks ≤ length before → at ≡ unknownAt m ks
-        → length ks ≤ at → WalkIs M ks fault stop p → (fault ≡ 0 → ⊥) → PlacingIs limit m M ks before (Faulty stop fault) before
-    unfolding placing placingMemory
-    faulty at stop zero p h r e u w nz = absurd (nz refl)
-    faulty at stop (suc fault) p h r e u w nz =
-        record { answers = rw (le-leb _ _ h, le-leb _ _ r, ← e, le-ltb _ _ u, ← w .first, ← w .position); memory = refl }
+      pub faulty : (at stop : ℕ) (fault : ℕ) (p : Offset) → at ≡ unknownAt m ks → length ks ≤ at → WalkIs M ks fault stop p → (fault ≡ 0 → ⊥)
+          → PlacingIs limit m M ks before (Faulty stop fault) before
+      unfolding placing placingMemory
+      faulty at stop zero p e u w nz = absurd (nz refl)
+      faulty at stop (suc fault) p e u w nz = record { answers = rw (passed, ← e, le-ltb _ _ u, ← w .first, ← w .position); memory = refl }
 
-    pub all-placed : (at stop fault n : ℕ) (p : Offset) (after : List ℕ) → length ks ≤ limit → recordLength * length ks ≤ length before
-        → at ≡ unknownAt m ks → length ks ≤ at → WalkIs M ks fault stop p → fault ≡ 0 → n ≡ length ks
-        → after ≡ recordsBefore M ks before → PlacingIs limit m M ks before (Placed n p) after
-    unfolding placing placingMemory
-    all-placed at stop fault n p after h r e u w ez en ea =
-        record {
-          answers = rw (le-leb _ _ h, le-leb _ _ r, ← e, le-ltb _ _ u, ← w .first, ez, en, w .final ez);
-          memory = ea;
-        }
+      pub all-placed : (at stop fault n : ℕ) (p : Offset) (after : List ℕ) → at ≡ unknownAt m ks → length ks ≤ at → WalkIs M ks fault stop p
+          → fault ≡ 0 → n ≡ length ks → after ≡ recordsBefore M ks before → PlacingIs limit m M ks before (Placed n p) after
+      unfolding placing placingMemory
+      all-placed at stop fault n p after e u w ez en ea =
+          record { answers = rw (passed, ← e, le-ltb _ _ u, ← w .first, ez, en, w .final ez); memory = ea }
+
+-- The tests of a list's length and of its room, which is divided so that nothing overflows.
+pub list-no : (limit n room many narrow number : ℕ) → many ≡ unless (leb n limit) 8 → narrow ≡ unless (leb n (room / recordLength)) 12
+    → number ≡ orElse many narrow → ListNo limit n room number
+list-no limit n room many narrow number em en e =
+    let is : number ≡ listNo limit n room = e ∙ rw (em, en, divided) in
+    let tests : number ≡ 0 → (unless (leb n limit) 8 ≡ 0) × (unless (leb (recordLength * n) room) 12 ≡ 0) = λ z. or-zero _ _ (sym is ∙ z) in
+    record {
+      is = is;
+      short = λ z. leb-true n limit (unless-zero _ 8 (lit< tt) (tests z .0));
+      roomy = λ z. leb-true (recordLength * n) room (unless-zero _ 12 (lit< tt) (tests z .1));
+    }
+  where
+    divided : leb n (room / recordLength) ≡ leb (recordLength * n) room
+    divided = elim (decLe (recordLength * n) room) [
+      | yes h ↦
+          let fits : n ≤ room / recordLength = omega (arith, h) in
+          le-leb _ _ fits ∙ sym (le-leb _ _ h)
+      | no h ↦
+          let over : room < recordLength * n = omega arith in
+          let less : room / recordLength < n = omega (arith, over) in
+          lt-leb _ _ less ∙ sym (lt-leb _ _ over)
+    ]
+
+pub list-fits : (limit n room : ℕ) → n ≤ limit → recordLength * n ≤ room → ListNo limit n room 0
+list-fits limit n room h r = record { is = rw (le-leb _ _ h, le-leb _ _ r); short = λ _. h; roomy = λ _. r }
 
 -- A file that cannot be read: its number, and nothing is written.
 pub not-read : (limit number m : ℕ) (M : Steps) (ks : List ℕ) (room : ℕ) → 0 < number → placing limit number m M ks room ≡ Placing.Refused number

@@ -5,7 +5,7 @@ use mathlib.Core.List.{List, _++_}
 use lib.ListN.{length, take, drop}
 use Rattle.convention.specs.declared.Offset.{Offset}
 use Rattle.convention.specs.declared.Placing.{Placing}
-use Rattle.convention.specs.Lists.{Steps, faultFrom, stopFrom, stateFrom, placesFrom, recordsOf, recordLength, records, placing, placingMemory}
+use Rattle.convention.specs.Lists.{Steps, faultFrom, stopFrom, stateFrom, placesFrom, recordsOf, recordLength, records, listNo, placing, placingMemory}
 
 -- The whole walk: its fault and where it stops, and p where nothing is faulty.
 pub record WalkIs (M : Steps) (ks : List ℕ) (fault stop : ℕ) (p : Offset) : Type 0 where
@@ -30,6 +30,12 @@ pub record WriteLeft (M : Steps) (ks : List ℕ) (before : List ℕ) (s : M .Sta
 -- The records of a list in front of what stood behind them.
 abbrev pub recordsBefore : (M : Steps) → List ℕ → List ℕ → List ℕ
 recordsBefore M ks before = records M ks ++ drop (length (records M ks)) before
+
+-- The number of so many arguments with so much room; where it is 0 they are few enough, and have room.
+pub record ListNo (limit arguments room number : ℕ) : Type 0 where
+  pub is : number ≡ listNo limit arguments room
+  pub short : number ≡ 0 → arguments ≤ limit
+  pub roomy : number ≡ 0 → recordLength * arguments ≤ room
 
 -- The answer of placing by a convention of m kinds that was read, and the lent memory afterwards.
 pub record PlacingIs (limit m : ℕ) (M : Steps) (ks before : List ℕ) (answer : Placing) (after : List ℕ) : Type 0 where

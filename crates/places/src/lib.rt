@@ -1,5 +1,5 @@
-// What placing by the rules and placing by a table have in common: runs of registers, the least offset, a list's first
-// unknown kind, a placement's record, and what a placement takes.
+// What placing by the rules and placing by a table have in common: runs of registers, the least offset, the tests of a list's
+// length, room and kinds, a placement's record, and what a placement takes.
 use convention::Offset;
 use convention::Placement;
 use convention::Reg;
@@ -11,7 +11,9 @@ ghost use Rattle.convention.specs.Offsets.{leastOffset};
 ghost use Rattle.convention.specs.Bytes.{fourBytes, written};
 ghost use Rattle.convention.specs.Lists.{unknownAt, recordOf};
 ghost use Rattle.convention.specs.Rules.{freeRun, markRun, placeTaken, placeP};
+ghost use Rattle.convention.specs.Numbers.{argumentLimit};
 ghost use Rattle.places.specs.Ends.{runEnd, stackEnd};
+ghost use Rattle.places.specs.Walks.{ListNo};
 
 // What going through a list found: the fault of the first faulty step and its position; or 0, and the final p.
 pub struct Walk {
@@ -63,6 +65,16 @@ pub fn least_offset(modulus: u8, residue: u8, p: Offset) -> Offset
         offset += 1;
     }
     Offset(offset)
+}
+
+// The number of a list of so many arguments with so much room, before its kinds are looked at: 8 where there are more than
+// 400, then 12 where their records have no room.
+pub fn list_no(arguments: usize, room: usize) -> u8
+    ensures { λ r. ⌜ ListNo argumentLimit arguments room r ⌝ }
+{
+    let many = fields::unless(arguments <= 400, 8);
+    let narrow = fields::unless(arguments <= room / 6, 12);
+    fields::or_else(many, narrow)
 }
 
 // The first position of a kind number of `kinds` or more; the list's length where there is none.

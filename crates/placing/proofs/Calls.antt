@@ -1,5 +1,5 @@
 -- What the public call hands down, and how its answer and the lent memory come together.
-use Prim.Native.Nat.{ℕ, zero, suc, _*_, _≤_}
+use Prim.Native.Nat.{ℕ, zero, suc, _≤_}
 use mathlib.Core.Path.{_≡_, refl, sym}
 use mathlib.Core.List.{List}
 use native.Mathlib.Omega.{arith}
@@ -17,8 +17,8 @@ use Rattle.convention.specs.Rules.{byRules, placeByRules, rulesMemory}
 use Rattle.convention.specs.Promised.{SheetRead}
 use Rattle.convention.proofs.Lists.{unknown-le}
 use Rattle.convention.proofs.Sheets.{sheet-read, sheet-right, sheet-is, sheet-refused, sheet-wrong}
-use Rattle.places.specs.Walks.{WalkIs, recordsBefore, PlacingIs}
-use Rattle.places.proofs.Walks.{faulty, all-placed, not-read}
+use Rattle.places.specs.Walks.{WalkIs, recordsBefore, ListNo, PlacingIs}
+use Rattle.places.proofs.Walks.{faulty, all-placed, list-fits, not-read}
 use Rattle.placing.specs.Asked.{RoomAsks}
 
 -- What a walk answers.
@@ -30,11 +30,11 @@ walk-faulty zero stop count p nz = absurd (nz refl)
 walk-faulty (suc fault) stop count p nz = refl
 
 -- Every kind is known, and the records have room.
-pub room-asks : (sheet : Sheet) (ks out : List ℕ) (at : ℕ) → at ≡ unknownAt (sheet .head .kinds) ks → length ks ≤ at
-    → SheetRead sheet → length ks ≤ argumentLimit → 6 * length ks ≤ length out → RoomAsks sheet ks out
-room-asks sheet ks out at ea h read short room = record {
-  asked = record { read = read; known = omega (arith, ea, unknown-le (sheet .head .kinds) ks); short = short };
-  room = room;
+pub room-asks : (sheet : Sheet) (ks out : List ℕ) (number at : ℕ) → SheetRead sheet → ListNo argumentLimit (length ks) (length out) number → number ≡ 0
+    → at ≡ unknownAt (sheet .head .kinds) ks → length ks ≤ at → RoomAsks sheet ks out
+room-asks sheet ks out number at read tests z ea h = record {
+  asked = record { read = read; known = omega (arith, ea, unknown-le (sheet .head .kinds) ks); short = tests .short z };
+  room = tests .roomy z;
 }
 
 -- Of such a list: 10, and nothing written; or success, and the records written.
@@ -43,16 +43,19 @@ module _ (sheet : Sheet) (ks out : List ℕ) (fault stop : ℕ) (p : Offset) (r 
   known : length ks ≤ unknownAt (sheet .head .kinds) ks
   known = omega (arith, asks .asked .known)
 
+  fits : ListNo argumentLimit (length ks) (length out) 0
+  fits = list-fits argumentLimit (length ks) (length out) (asks .asked .short) (asks .room)
+
   pub known-faulty : (fault ≡ 0 → ⊥) → PlacingIs argumentLimit (sheet .head .kinds) (byRules sheet) ks out r out
   known-faulty nz =
       rw (er, ← walk-faulty fault stop (length ks) p nz)
-      (faulty (byRules sheet) ks argumentLimit _ out _ stop fault p (asks .asked .short) (asks .room) refl known walk nz)
+      (faulty (byRules sheet) ks argumentLimit _ out 0 fits refl _ stop fault p refl known walk nz)
 
   pub known-placed : (out′ : List ℕ) → fault ≡ 0 → out′ ≡ recordsBefore (byRules sheet) ks out
       → PlacingIs argumentLimit (sheet .head .kinds) (byRules sheet) ks out r out′
   known-placed out′ z e =
       rw (er, ← walk-placed fault stop (length ks) p z)
-      (all-placed (byRules sheet) ks argumentLimit _ out _ stop fault _ p out′ (asks .asked .short) (asks .room) refl known walk z refl e)
+      (all-placed (byRules sheet) ks argumentLimit _ out 0 fits refl _ stop fault _ p out′ refl known walk z refl e)
 
 -- The reader's answer: what it promises where it read the sheet, and the call's answer and memory on either.
 module _ (s : List ℕ) (a : SheetAnswer) (ea : a ≡ readSheet s) where

@@ -208,11 +208,9 @@ fn place_list(sheet: Sheet, list: &[u8], out: &mut [u8]) -> Placing
     ensures { λ r. ⌜ PlacingIs argumentLimit (sheet .head .kinds) (byRules sheet) (now (list .entry)) (now (out .entry)) r (now (out .exit)) ⌝ }
 {
     let n = list.len();
-    if 400 < n {
-        return Placing::Refused(8);
-    }
-    if out.len() < 6 * n {
-        return Placing::Refused(12);
+    let number = places::list_no(n, out.len());
+    if number != 0 {
+        return Placing::Refused(number);
     }
     let unknown = places::unknown_at(sheet.head.kinds, list);
     if unknown < n {

@@ -1,5 +1,5 @@
 -- What the public call hands down: known kinds, no fault, and room; and how its answer comes together.
-use Prim.Native.Nat.{ℕ, _*_, _≤_}
+use Prim.Native.Nat.{ℕ, _≤_}
 use mathlib.Core.Path.{_≡_, sym, _∙_}
 use mathlib.Core.List.{List}
 use native.Mathlib.Omega.{arith}
@@ -12,28 +12,27 @@ use Rattle.convention.specs.declared.Reading.{Reading}
 use Rattle.convention.specs.declared.TableAnswer.{TableAnswer}
 use Rattle.convention.specs.Numbers.{stateLimit, argumentLimit, reading}
 use Rattle.convention.specs.Tables.{readTable}
-use Rattle.convention.specs.Lists.{unknownAt, recordLength, placingMemory}
+use Rattle.convention.specs.Lists.{unknownAt, placingMemory}
 use Rattle.convention.specs.Walked.{byTable, placeByTable, tableMemory}
 use Rattle.convention.specs.Promised.{TableRead}
 use Rattle.convention.proofs.Lists.{unknown-le}
 use Rattle.convention.proofs.Tables.{table-read, table-right, table-is, table-refused, table-wrong}
-use Rattle.places.specs.Walks.{WalkIs, PlacingIs}
+use Rattle.places.specs.Walks.{WalkIs, ListNo, PlacingIs}
 use Rattle.places.proofs.Walks.{not-read}
 use Rattle.walking.specs.Asked.{WalkAsks, WriteAsks}
 
 -- A list that is short enough and has no unknown kind can be walked; one without a fault, given room, can be written.
-pub walk-asks : (table : Table) (t ks : List ℕ) (h : Head) (at : ℕ) → TableRead stateLimit table t → length ks ≤ argumentLimit
-    → h ≡ table .head → at ≡ unknownAt (h .kinds) ks → length ks ≤ at → WalkAsks table t ks
-walk-asks table t ks h at read few eh e known =
-    let most = unknown-le (table .head .kinds) ks in
-    let is : at ≡ unknownAt (table .head .kinds) ks = rw eh at e in
-    record { read = read; known = omega arith; few = few }
+module _ (table : Table) (t ks out : List ℕ) (h : Head) (number at : ℕ) (read : TableRead stateLimit table t)
+    (tests : ListNo argumentLimit (length ks) (length out) number) (z : number ≡ 0) (eh : h ≡ table .head) (e : at ≡ unknownAt (h .kinds) ks)
+    (known : length ks ≤ at) where
+  pub walk-asks : WalkAsks table t ks
+  walk-asks =
+      let most = unknown-le (table .head .kinds) ks in
+      let is : at ≡ unknownAt (table .head .kinds) ks = rw eh at e in
+      record { read = read; known = omega arith; few = tests .short z }
 
-pub write-asks : (table : Table) (t ks out : List ℕ) (h : Head) (at fault stop : ℕ) (p : Offset) → TableRead stateLimit table t → length ks ≤ argumentLimit
-    → h ≡ table .head → at ≡ unknownAt (h .kinds) ks → length ks ≤ at → recordLength * length ks ≤ length out
-    → WalkIs (byTable table t) ks fault stop p → fault ≡ 0 → WriteAsks table t ks out
-write-asks table t ks out h at fault stop p read few eh e known room walk z =
-    record { walk = walk-asks table t ks h at read few eh e known; free = sym (walk .first) ∙ z; room = room }
+  pub write-asks : (fault stop : ℕ) (p : Offset) → WalkIs (byTable table t) ks fault stop p → fault ≡ 0 → WriteAsks table t ks out
+  write-asks fault stop p walk none = record { walk = walk-asks; free = sym (walk .first) ∙ none; room = tests .roomy z }
 
 -- The reader's answer: what it promises where it read the table, and the call's answer and memory on either.
 module _ (t : List ℕ) (a : TableAnswer) (ea : a ≡ readTable stateLimit t) where

@@ -198,11 +198,9 @@ fn place_list(table: Table, t: &[u8], list: &[u8], out: &mut [u8]) -> Placing
     ensures { λ r. ⌜ PlacingIs argumentLimit (table .head .kinds) (byTable table (now (t .entry))) (now (list .entry)) (now (out .entry)) r (now (out .exit)) ⌝ }
 {
     let n = list.len();
-    if 400 < n {
-        return Placing::Refused(8);
-    }
-    if out.len() < 6 * n {
-        return Placing::Refused(12);
+    let number = places::list_no(n, out.len());
+    if number != 0 {
+        return Placing::Refused(number);
     }
     let head = table.head;
     let at = places::unknown_at(head.kinds, list);
