@@ -1,13 +1,14 @@
--- Laws of reading a sheet: what is promised where its number is 0. The head, a kind's shape, and things one behind the other are a table's too.
+-- Laws of reading a sheet: what is promised where its number is 0, and where its kinds and their starts stand. The head, a kind's shape, and things one behind the other are a table's too.
 use Prim.Native.Nat.{ℕ, zero, suc, _+_, _-_, _*_, _≤_, _<_}
 use mathlib.Core.Path.{_≡_, refl, sym, ap, _∙_}
 use mathlib.Core.Bool.{and-eq-true-iff}
 use mathlib.Core.List.{List, [], _∷_, _++_}
-use native.Mathlib.Nat.{add-zero, mul-zero, one-mul, le-refl}
+use native.Mathlib.Nat.{add-zero, add-assoc, mul-zero, one-mul, le-refl}
+use native.Mathlib.Numerals.{add-one}
 use native.Mathlib.Omega.{arith}
 use lib.Dec.{leb, lit<}
 use lib.ListN.{length, getD, take, drop, replicate, length-append, length-drop, length-replicate, List·getD-append}
-use lib.Seq.{length-take-le, getD-take, getD-drop}
+use lib.Seq.{length-take-le, getD-take, getD-drop, drop-drop}
 use borrow.Author.Tests.{leb-true}
 use Rattle.convention.specs.declared.Head.{Head}
 use Rattle.convention.specs.declared.SheetKind.{SheetKind}
@@ -17,7 +18,8 @@ use Rattle.convention.specs.Numbers.{orElse, reading}
 use Rattle.convention.specs.Fields.{fieldNo, lengthNo, versionNo, registersAt, widthAt, modulusAt, kindsCountAt, kindsAt, headOf, headNo}
 use Rattle.convention.specs.Fields.{openingNo, sizeAt, alignmentAt, shapeNo}
 use Rattle.convention.specs.Sheets.{flagsAt, triesAt, startsAt, registersNeeded, startsNo, sheetKindLength, sheetKindNo, sheetKindOf}
-use Rattle.convention.specs.Sheets.{sheetKindsNo, sheetKindsOf, sheetKindsLength, sheetEnd, sheetNo, blankKind, sheetOf, readSheet}
+use Rattle.convention.specs.Sheets.{sheetKindsNo, sheetKindsOf, sheetKindsLength, sheetKindAt, firstStartAt, sheetEnd, sheetNo, blankKind, sheetOf}
+use Rattle.convention.specs.Sheets.{readSheet, sheetKind}
 use Rattle.convention.specs.Promised.{HeadRead, ShapeRead, SheetKindRead, SheetRead}
 use Rattle.convention.proofs.Numbers.{or-zero, unless-zero, field-zero, read-number, refused-number, refused-some}
 
@@ -38,6 +40,16 @@ module _ {A : Type 0} (long : List ℕ → ℕ) (of : List ℕ → A) (all : Lis
   pub behind-count : (s : List ℕ) (left : ℕ) → length (all s left) ≡ left
   behind-count s zero = rw (none s)
   behind-count s (suc left) = rw (more s left) (ap suc (behind-count (drop (long s) s) left))
+
+  -- Kind i is made from where the i kinds before it end.
+  pub behind-at : (ends : List ℕ → ℕ → ℕ) → ((s : List ℕ) → ends s 0 ≡ 0)
+      → ((s : List ℕ) (i : ℕ) → ends s (suc i) ≡ long s + ends (drop (long s) s) i)
+      → (s : List ℕ) (left i : ℕ) (d : A) → i < left → getD (all s left) i d ≡ of (drop (ends s i) s)
+  behind-at ends first next s zero i d h = absurd (omega arith)
+  behind-at ends first next s (suc left) zero d h = rw (more s left, first s)
+  behind-at ends first next s (suc left) (suc i) d h =
+      rw (more s left, next s i, ← drop-drop (ends (drop (long s) s) i) (long s) s)
+      (behind-at ends first next (drop (long s) s) left i d (omega arith))
 
   -- Each is tested by `one`, and `left` of them by `run`: where `run` gives no number, each is as `one` promises.
   pub behind-read : (one : List ℕ → ℕ) (run : List ℕ → ℕ → ℕ)
@@ -194,6 +206,25 @@ kinds-most h s (suc left) e =
     let both = or-zero (sheetKindNo h s) _ e in
     omega (arith, kind-tries h s (both .0), kinds-most h (drop (sheetKindLength s) s) left (both .1))
 
+-- One kind more, where the kinds before it end.
+kinds-next : (s : List ℕ) (k : ℕ) → sheetKindsLength s (suc k) ≡ sheetKindsLength s k + sheetKindLength (drop (sheetKindsLength s k) s)
+unfolding sheetKindsLength
+kinds-next s zero = omega arith
+kinds-next s (suc k) =
+    rw (kinds-next (drop (sheetKindLength s) s) k, drop-drop) (omega arith)
+
+pub kind-next : (s : List ℕ) (k : ℕ) → sheetKindAt s (k + 1) ≡ sheetKindAt s k + sheetKindLength (drop (sheetKindAt s k) s)
+kind-next s k = rw (add-one, kinds-next, drop-drop) (omega arith)
+
+-- Where nothing is wrong with the kinds, nothing is with the first k of them.
+kinds-first : (h : Head) (s : List ℕ) (left k : ℕ) → sheetKindsNo h s left ≡ 0 → k ≤ left → sheetKindsNo h s k ≡ 0
+unfolding sheetKindsNo
+kinds-first h s left zero e l = refl
+kinds-first h s zero (suc k) e l = absurd (omega arith)
+kinds-first h s (suc left) (suc k) e l =
+    let both = or-zero (sheetKindNo h s) _ e in
+    rw (both .0) (kinds-first h (drop (sheetKindLength s) s) left k (both .1) (omega arith))
+
 -- What a sheet's tests say, one by one.
 record SheetTests (s : List ℕ) : Type 0 where
   head : headNo s ≡ 0
@@ -233,6 +264,40 @@ module _ (s : List ℕ) (e : sheetNo s ≡ 0) where
   sheet-short =
       let kinds = kinds-most (headOf s) (drop kindsAt s) (headOf s .kinds) (sheet-tests .kinds) in
       omega (arith, sheet-whole, head-read s (sheet-tests .head) .kinds, kinds)
+
+  -- The k kinds before a kind lie within the bytes.
+  pub kind-within : (k : ℕ) → k ≤ headOf s .kinds → sheetKindAt s k ≤ length s
+  kind-within k l =
+      let right = kinds-first (headOf s) (drop kindsAt s) (headOf s .kinds) k (sheet-tests .kinds) l in
+      omega (arith, head-there s (sheet-tests .head), rw length-drop at (kinds-end (headOf s) (drop kindsAt s) k right))
+
+  module _ (k : ℕ) (l : k < headOf s .kinds) where
+    -- A kind is read from where it stands.
+    pub kind-is : sheetKind (sheetOf s) k ≡ sheetKindOf (drop (sheetKindAt s k) s)
+    unfolding sheetOf sheetKindsOf sheetKindsLength
+    kind-is =
+        let kinds = sheetKindsOf (drop kindsAt s) (headOf s .kinds) in
+        rw (List·getD-append kinds _ _ k (omega (arith, kinds-count (drop kindsAt s) (headOf s .kinds))))
+        (behind-at sheetKindLength sheetKindOf sheetKindsOf (λ s. refl) (λ s left. refl) sheetKindsLength (λ s. refl) (λ s i. refl)
+        (drop kindsAt s) (headOf s .kinds) k _ l ∙ rw drop-drop)
+
+    -- Its starts stand in the sheet one behind the other from its first start on, and end within the bytes.
+    pub starts-within : firstStartAt s k + sheetKind (sheetOf s) k .tries ≤ length s
+    unfolding sheetKindOf
+    starts-within = rw kind-is (omega (arith, kind-next s k, kind-within (k + 1) (omega arith)))
+
+    pub first-start-fits : firstStartAt s k < 65536
+    first-start-fits = omega (arith, starts-within, sheet-short)
+
+    pub start-is : (i : ℕ) → i < sheetKind (sheetOf s) k .tries
+        → getD s (firstStartAt s k + i) 0 ≡ getD (sheetKind (sheetOf s) k .starts) i 0
+    unfolding sheetKindOf
+    start-is i h =
+        let here = drop (sheetKindAt s k) s in
+        let given = take (getD here triesAt 0) (drop startsAt here) in
+        let few : i < getD here triesAt 0 = rw kind-is at h in
+        let count = length-take-le (getD here triesAt 0) (drop startsAt here) (rw (length-drop, length-drop) (omega (arith, rw kind-is at starts-within))) in
+        rw (kind-is, List·getD-append given _ 0 i (omega (arith, count)), getD-take, getD-drop, getD-drop) (simp add-assoc)
 
 -- What the reader's answer tells: where it read the sheet, the sheet; where it refused, the number.
 module _ (s : List ℕ) (a : SheetAnswer) (ea : a ≡ readSheet s) where

@@ -3,12 +3,11 @@ use Prim.Native.Nat.{ℕ, zero, suc, _+_, _*_, _≤_, _<_}
 use mathlib.Core.Path.{_≡_, refl, _∙_}
 use mathlib.Core.Logic.{inl, inr}
 use mathlib.Core.Bool.{Bool, true, _&&_, cond, and-eq-true-iff}
-use mathlib.Core.List.{List}
-use native.Mathlib.Nat.{add-assoc, mul-assoc, mul-le-mul-left, le-refl, eq-zero-or-pos}
+use mathlib.Core.List.{List, []}
+use native.Mathlib.Nat.{mul-assoc, mul-le-mul-left, le-refl, eq-zero-or-pos}
 use native.Mathlib.Omega.{arith}
 use lib.Dec.{ltb, leb, eqb, lit<}
 use lib.ListN.{length, getD, take, drop, length-take, length-drop, List·getD-append}
-use lib.Seq.{getD-take, getD-drop, drop-drop}
 use borrow.Author.Tests.{ltb-true, leb-true, eqb-true, ne-eqb}
 use Rattle.convention.specs.declared.Head.{Head}
 use Rattle.convention.specs.declared.TableKind.{TableKind}
@@ -19,10 +18,10 @@ use Rattle.convention.specs.Numbers.{reading}
 use Rattle.convention.specs.Fields.{kindsAt, headOf, headNo, openingNo, shapeNo}
 use Rattle.convention.specs.Tables.{tableKindLength, tableKindOf, tableKindsNo, tableKindsOf, statesAt, statesOf, statesNo}
 use Rattle.convention.specs.Tables.{transitionOf, isTransition, transitionNo, transitionsNo, rowsAt, rowLength, rowAt}
-use Rattle.convention.specs.Tables.{tableNo, blankTableKind, tableOf, readTable, transition, rowNo, row}
+use Rattle.convention.specs.Tables.{tableNo, blankTableKind, tableOf, readTable, rowNo, rowGiven, row, startGiven, rowStart}
 use Rattle.convention.specs.Promised.{ShapeRead, TableRead}
 use Rattle.convention.proofs.Numbers.{or-zero, unless-zero, field-zero, read-number, refused-number, refused-some}
-use Rattle.convention.proofs.Sheets.{fields-zero, behind-count, behind-read, filled-length, head-read, opening-head, shape-read}
+use Rattle.convention.proofs.Sheets.{fields-zero, behind-count, behind-at, behind-read, filled-length, head-read, opening-head, shape-read}
 
 -- The part of a transition's test that speaks of its place.
 abbrev placeRight : Head → Transition → Bool
@@ -61,11 +60,9 @@ table-kinds-count = behind-count (λ s. tableKindLength) tableKindOf tableKindsO
 pub table-kind-at : (s : List ℕ) (left k : ℕ) (d : TableKind) → k < left
     → getD (tableKindsOf s left) k d ≡ tableKindOf (drop (tableKindLength * k) s)
 unfolding tableKindsOf
-table-kind-at s zero k d h = absurd (omega arith)
-table-kind-at s (suc left) zero d h = refl
-table-kind-at s (suc left) (suc k) d h =
-    let place : tableKindLength + tableKindLength * k ≡ tableKindLength * suc k = omega arith in
-    table-kind-at (drop tableKindLength s) left k d (omega arith) ∙ rw (drop-drop, place)
+table-kind-at =
+    behind-at (λ s. tableKindLength) tableKindOf tableKindsOf (λ s. refl) (λ s left. refl)
+    (λ s k. tableKindLength * k) (λ s. refl) (λ s k. omega arith)
 
 pub table-kinds-read : (h : Head) (s : List ℕ) (left : ℕ) → tableKindsNo h s left ≡ 0
     → (i : ℕ) → i < left → (d : TableKind)
@@ -178,8 +175,17 @@ module _ (limit : ℕ) (t : List ℕ) (a : TableAnswer) (ea : a ≡ readTable li
   pub table-wrong : (n : ℕ) → a .reading ≡ Reading.Refused n → 0 < n
   table-wrong n e = rw (← table-refused n e) (refused-some (tableNo limit t) n (table-reading ∙ e))
 
+-- A row that is refused is the empty part, where the table starts.
+pub row-refused : (limit : ℕ) (t : List ℕ) (state : ℕ) → (rowNo limit t state ≡ 0 → ⊥) → (row limit t state ≡ []) × (rowStart limit t state ≡ 0)
+unfolding row rowStart
+row-refused limit t state nz = none (rowNo limit t state) _ _ nz
+  where
+    none : (n : ℕ) (part : List ℕ) (start : ℕ) → (n ≡ 0 → ⊥) → (rowGiven n part ≡ []) × (startGiven n start ≡ 0)
+    none zero part start nz = absurd (nz refl)
+    none (suc n) part start nz = (refl, refl)
+
 module _ (limit : ℕ) (t : List ℕ) (state : ℕ) (e : rowNo limit t state ≡ 0) where
-  row-tests : (tableNo limit t ≡ 0) × (state < statesOf t)
+  pub row-tests : (tableNo limit t ≡ 0) × (state < statesOf t)
   unfolding rowNo
   row-tests =
       let both = or-zero (tableNo limit t) _ e in
@@ -193,22 +199,12 @@ module _ (limit : ℕ) (t : List ℕ) (state : ℕ) (e : rowNo limit t state ≡
   unfolding row
   row-is = rw e
 
+  pub row-start : rowStart limit t state ≡ rowAt (headOf t .kinds) state
+  unfolding rowStart
+  row-start = rw e
+
   pub row-length : length (row limit t state) ≡ 4 * headOf t .kinds
   row-length = rw (row-is, length-take, length-drop) (omega (arith, row-part))
 
   pub row-some : 0 < length (row limit t state)
   row-some = omega (arith, row-length, head-read t (table-tests limit t (row-tests .0) .head) .some)
-
-  -- Its bytes are the table's, and so are its transitions.
-  row-byte : (i : ℕ) → i < 4 * headOf t .kinds → getD (row limit t state) i 0 ≡ getD t (rowAt (headOf t .kinds) state + i) 0
-  row-byte i l = rw (row-is, getD-take, getD-drop)
-
-  pub row-transition : (k : ℕ) → k < headOf t .kinds → transitionOf (row limit t state) (4 * k) ≡ transition (tableOf t) t state k
-  unfolding tableOf
-  row-transition k l =
-      rw (
-        row-byte (4 * k) (omega arith),
-        row-byte (4 * k + 1) (omega arith),
-        row-byte (4 * k + 2) (omega arith),
-        row-byte (4 * k + 3) (omega arith),
-      ) (simp add-assoc)

@@ -72,9 +72,17 @@ unfoldable pub sheetKindsLength : List ℕ → ℕ → ℕ
 sheetKindsLength s zero = 0
 sheetKindsLength s (suc left) = sheetKindLength s + sheetKindsLength (drop (sheetKindLength s) s) left
 
+-- Where kind k of a sheet stands: behind the k kinds before it.
+abbrev pub sheetKindAt : List ℕ → ℕ → ℕ
+sheetKindAt s k = kindsAt + sheetKindsLength (drop kindsAt s) k
+
+-- Where its first start stands, or would if it has none. Its t starts stand there one behind the other.
+abbrev pub firstStartAt : List ℕ → ℕ → ℕ
+firstStartAt s k = sheetKindAt s k + startsAt
+
 -- Where the sheet's last kind ends.
 abbrev pub sheetEnd : List ℕ → ℕ
-sheetEnd s = kindsAt + sheetKindsLength (drop kindsAt s) (headOf s .kinds)
+sheetEnd s = sheetKindAt s (headOf s .kinds)
 
 -- The number of the first thing that is wrong with a sheet, 0 where it can be read: 1, then left to right, 6 last.
 unfoldable pub sheetNo : List ℕ → ℕ

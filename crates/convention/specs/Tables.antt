@@ -129,3 +129,11 @@ rowGiven (suc number) part = []
 
 unfoldable pub row : ℕ → List ℕ → ℕ → List ℕ
 row limit t state = rowGiven (rowNo limit t state) (take (rowLength (headOf t .kinds)) (drop (rowAt (headOf t .kinds) state) t))
+
+-- Where that part starts: where the row does, and where the table does if it is refused.
+abbrev pub startGiven : ℕ → ℕ → ℕ
+startGiven zero start = start
+startGiven (suc number) start = 0
+
+unfoldable pub rowStart : ℕ → List ℕ → ℕ → ℕ
+rowStart limit t state = startGiven (rowNo limit t state) (rowAt (headOf t .kinds) state)

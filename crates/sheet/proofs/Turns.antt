@@ -11,11 +11,11 @@ use lib.Seq.{take-all, drop-cons, drop-drop, getD-drop}
 use Rattle.convention.specs.Fields.{fieldNo, kindsAt}
 use Rattle.convention.specs.declared.Head.{Head}
 use Rattle.convention.specs.declared.SheetKind.{SheetKind}
-use Rattle.convention.specs.Sheets.{startsAt, startsNo, sheetKindLength, sheetKindNo, sheetKindOf, sheetKindsNo, sheetKindsOf, sheetKindsLength, blankKind}
+use Rattle.convention.specs.Sheets.{startsAt, startsNo, sheetKindLength, sheetKindNo, sheetKindOf, sheetKindsNo, sheetKindsOf, sheetKindsLength, sheetKindAt, blankKind}
 use Rattle.convention.proofs.Parts.{rest-of}
 use Rattle.convention.proofs.Filled.{filled, fill-turn, fill-done}
-use Rattle.convention.proofs.Sheets.{kind-tries, kind-length, kinds-count}
-use Rattle.sheet.specs.Kinds.{KindsAre, KindsLeft, KindWhole, KindsRight, KindsStored}
+use Rattle.convention.proofs.Sheets.{kind-tries, kind-length, kinds-count, kind-next, kind-within}
+use Rattle.sheet.specs.Kinds.{KindsAre, KindsLeft, KindWhole, KindsRight, KindsStored, KindThere}
 use Rattle.convention.proofs.Numbers.{or-zero}
 use Rattle.convention.proofs.InTurn.{Things, InTurn, turn-right, turn-wrong, turn-end}
 
@@ -153,3 +153,22 @@ kinds-done h s at i kinds inv t =
     let all = sheetKindsOf (drop kindsAt s) (h .kinds) in
     let stored = fill-done all 8 blankKind kinds i (h .kinds) (inv .stored) (inv .count) t in
     rw (take-all (h .kinds) all (rw kinds-count (le-refl (h .kinds)))) at stored
+
+-- Going to kind k: the next kind is where the kinds before it end, within the sheet.
+pub kind-begins : (s : List ℕ) → kindsAt ≡ sheetKindAt s 0
+unfolding sheetKindsLength
+kind-begins s = refl
+
+module _ (s : List ℕ) (k at i : ℕ) (inv : at ≡ sheetKindAt s i) where
+  pub at-within : KindThere s k → i ≤ k → at ≤ length s
+  at-within there l = rw inv (kind-within s (there .read) i (omega (arith, there .known)))
+
+  pub at-turn : (len : ℕ) → len ≡ sheetKindLength (take (length s - at) (drop at s)) → at + len ≡ sheetKindAt s (i + 1)
+  at-turn len el =
+      let long : len ≡ sheetKindLength (drop at s) = rw (← rest-of s at) el in
+      rw (long, kind-next, inv)
+
+  pub at-end : i ≤ k → k ≤ i → at ≡ sheetKindAt s k
+  at-end l g =
+      let same : k ≡ i = omega arith in
+      rw same inv

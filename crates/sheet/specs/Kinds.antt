@@ -5,19 +5,19 @@ use mathlib.Core.List.{List, _++_}
 use lib.ListN.{length, getD, take, drop, replicate}
 use Rattle.convention.specs.declared.Head.{Head}
 use Rattle.convention.specs.declared.SheetKind.{SheetKind}
-use Rattle.convention.specs.Fields.{kindsAt}
-use Rattle.convention.specs.Sheets.{triesAt, sheetKindLength, sheetKindsNo, sheetKindsLength, sheetKindsOf, blankKind}
+use Rattle.convention.specs.Fields.{kindsAt, headOf}
+use Rattle.convention.specs.Sheets.{triesAt, sheetKindLength, sheetKindsNo, sheetKindsLength, sheetKindsOf, sheetKindAt, sheetNo, blankKind}
 
 -- Going through all kinds of a sheet s: their number, and where the last one ends if nothing is wrong with any.
 pub record KindsAre (h : Head) (s : List ℕ) (number end : ℕ) : Type 0 where
   pub first : number ≡ sheetKindsNo h (drop kindsAt s) (h .kinds)
-  pub ends : number ≡ 0 → end ≡ kindsAt + sheetKindsLength (drop kindsAt s) (h .kinds)
+  pub ends : number ≡ 0 → end ≡ sheetKindAt s (h .kinds)
 
 -- Half way through: `left` kinds are left, the next one at byte `at`, and those that are left give the number and the end of all.
 pub record KindsLeft (h : Head) (s : List ℕ) (at left : ℕ) : Type 0 where
   pub within : at ≤ length s
   pub numbers : sheetKindsNo h (drop at s) left ≡ sheetKindsNo h (drop kindsAt s) (h .kinds)
-  pub lengths : at + sheetKindsLength (drop at s) left ≡ kindsAt + sheetKindsLength (drop kindsAt s) (h .kinds)
+  pub lengths : at + sheetKindsLength (drop at s) left ≡ sheetKindAt s (h .kinds)
 
 -- A sheet that is at least as long as its head, which says how wide a register is.
 pub record HeadThere (h : Head) (s : List ℕ) : Type 0 where
@@ -42,3 +42,8 @@ pub record KindsStored (h : Head) (s : List ℕ) (at i : ℕ) (kinds : List Shee
   pub right : sheetKindsNo h (drop at s) (h .kinds - i) ≡ 0
   pub rest : drop i (sheetKindsOf (drop kindsAt s) (h .kinds)) ≡ sheetKindsOf (drop at s) (h .kinds - i)
   pub stored : kinds ≡ take i (sheetKindsOf (drop kindsAt s) (h .kinds)) ++ replicate (8 - i) blankKind
+
+-- A sheet s that was read has a kind k.
+pub record KindThere (s : List ℕ) (k : ℕ) : Type 0 where
+  pub read : sheetNo s ≡ 0
+  pub known : k < headOf s .kinds

@@ -10,8 +10,8 @@ ghost use mathlib.Core.Path.{_≡_};
 ghost use mathlib.Core.List.{_++_};
 ghost use Prim.Native.Nat.{_+_, _-_, _≤_, _<_};
 ghost use lib.ListN.{length, take, drop, replicate};
-ghost use Rattle.convention.specs.Sheets.{registersNeeded, sheetKindLength, startsNo, sheetKindNo, sheetKindOf, sheetKindsOf, sheetNo, sheetOf, blankKind, blankSheet, readSheet};
-ghost use Rattle.sheet.specs.Kinds.{HeadThere, KindsAre, KindWhole, KindsRight};
+ghost use Rattle.convention.specs.Sheets.{registersNeeded, sheetKindLength, startsNo, sheetKindNo, sheetKindOf, sheetKindsOf, sheetKindAt, sheetNo, sheetOf, blankKind, blankSheet, readSheet};
+ghost use Rattle.sheet.specs.Kinds.{HeadThere, KindsAre, KindWhole, KindsRight, KindThere};
 
 // 'A kind needs k registers, size / w rounded up.'
 pub fn registers_needed(width: u8, size: u8) -> u8
@@ -213,4 +213,19 @@ pub fn read_sheet(s: &[u8]) -> SheetAnswer
         reading: Reading::Refused(number),
         sheet,
     }
+}
+
+// Where kind k stands in a sheet that was read and has it: behind the kinds before it, each as long as its number of starts
+// says. Its first start stands four bytes further on.
+pub fn kind_at(s: &[u8], k: usize) -> usize
+    requires { ⌜ KindThere (now s) k ⌝ }
+    ensures { λ r. ⌜ r ≡ sheetKindAt (now (s .entry)) k ⌝ }
+{
+    let mut at: usize = 7;
+    let mut passed: usize = 0;
+    while passed < k {
+        at += kind_length(&s[at..]);
+        passed += 1;
+    }
+    at
 }

@@ -1,25 +1,27 @@
 -- Transitions and rows: their numbers, and that what is asked for lies within the table's bytes.
-use Prim.Native.Nat.{ℕ, zero, suc, _+_, _-_, _*_, _^_, _≤_, _<_}
-use mathlib.Core.Path.{_≡_, refl, sym, _∙_}
+use Prim.Native.Nat.{ℕ, _+_, _-_, _*_, _^_, _≤_, _<_}
+use mathlib.Core.Path.{_≡_, sym, _∙_}
 use mathlib.Core.Bool.{Bool}
 use mathlib.Core.List.{List, []}
-use native.Mathlib.Nat.{mul-le-mul, mul-le-mul-left}
+use native.Mathlib.Nat.{zero-add, mul-le-mul, mul-le-mul-left}
 use native.Mathlib.Omega.{arith}
 use lib.Dec.{ltb}
 use lib.ListN.{length, getD, take, drop}
 use mir.Syntax.{w8, w16, w64}
 use mir.Val.{Fits}
 use borrow.Author.Tests.{le-leb, lt-ltb, le-ltb}
+use denote.Ref.{RefT}
+use denote.Slice.{slice-vals}
 use Rattle.convention.specs.declared.Head.{Head}
 use Rattle.convention.specs.declared.Table.{Table}
 use Rattle.convention.specs.declared.Transition.{Transition}
 use Rattle.convention.specs.Numbers.{unless}
 use Rattle.convention.specs.Fields.{headOf}
-use Rattle.convention.specs.Tables.{statesAt, transitionOf, isTransition, transitionNo, rowLength, rowAt, tableNo, transitionAt, rowNo, rowGiven, row}
+use Rattle.convention.specs.Tables.{statesAt, transitionOf, isTransition, transitionNo, rowLength, rowAt, tableNo, transitionAt, rowNo, row, rowStart}
 use Rattle.convention.specs.Promised.{TableRead}
 use Rattle.convention.proofs.Numbers.{or-first, or-later}
-use Rattle.convention.proofs.Tables.{row-part, row-is}
-use Rattle.table.specs.Asked.{InTable}
+use Rattle.convention.proofs.Tables.{row-refused, row-part, row-is, row-start}
+use Rattle.table.specs.Asked.{InTable, behind, RowPart}
 
 -- The number of a transition whose four bytes are there.
 pub transition-number : (h : Head) (states : ℕ) (t : List ℕ) (at : ℕ) (x : Transition) (right b : Bool)
@@ -63,20 +65,32 @@ module _ (limit : ℕ) (t : List ℕ) (state number : ℕ) (e : number ≡ table
     pub state-unknown : states ≤ state → 13 ≡ rowNo limit t state
     state-unknown l = number-state 13 (rw (le-ltb _ _ l))
 
--- A row that is refused is the empty part; one that is given lies within the table's bytes.
-pub row-refused : (limit : ℕ) (t : List ℕ) (state number : ℕ) → number ≡ rowNo limit t state → (number ≡ 0 → ⊥) → [] ≡ row limit t state
-unfolding row
-row-refused limit t state number e nz = rw (← e) (none number _ nz)
-  where
-    none : (n : ℕ) (part : List ℕ) → (n ≡ 0 → ⊥) → [] ≡ rowGiven n part
-    none zero part nz = absurd (nz refl)
-    none (suc n) part nz = refl
+-- A row that is refused is the empty part, at the table's first byte; one that is given lies within the table's bytes, and starts where it does there.
+module _ (limit : ℕ) (t : List ℕ) (state number : ℕ) (e : number ≡ rowNo limit t state) where
+  module _ (nz : number ≡ 0 → ⊥) where
+    none : (row limit t state ≡ []) × (rowStart limit t state ≡ 0)
+    none = row-refused limit t state (λ z. nz (e ∙ z))
 
-module _ (limit : ℕ) (t : List ℕ) (state number : ℕ) (h : Head) (e : number ≡ rowNo limit t state) (z : number ≡ 0) (eh : h ≡ headOf t) where
-  pub row-within : rowAt (h .kinds) state + rowLength (h .kinds) ≤ length t
-  row-within = rw eh (row-part limit t state (sym e ∙ z))
+    pub refused-bytes : [] ≡ row limit t state
+    refused-bytes = sym (none .0)
 
-  pub row-given : (start : ℕ) → start ≡ rowAt (h .kinds) state → take (start + rowLength (h .kinds) - start) (drop start t) ≡ row limit t state
-  row-given start es =
-      let long : start + rowLength (h .kinds) - start ≡ rowLength (h .kinds) = omega arith in
-      rw (long, es, eh) (sym (row-is limit t state (sym e ∙ z)))
+    pub refused-place : (place : ℕ × ℕ) → place ≡ behind place (rowStart limit t state)
+    refused-place place = rw (none .1, zero-add)
+
+  module _ (h : Head) (z : number ≡ 0) (eh : h ≡ headOf t) where
+    pub row-within : rowAt (h .kinds) state + rowLength (h .kinds) ≤ length t
+    row-within = rw eh (row-part limit t state (sym e ∙ z))
+
+    module _ (start : ℕ) (es : start ≡ rowAt (h .kinds) state) where
+      pub given-bytes : take (start + rowLength (h .kinds) - start) (drop start t) ≡ row limit t state
+      given-bytes =
+          let long : start + rowLength (h .kinds) - start ≡ rowLength (h .kinds) = omega arith in
+          rw (long, es, eh) (sym (row-is limit t state (sym e ∙ z)))
+
+      pub given-place : (place : ℕ × ℕ) → behind place start ≡ behind place (rowStart limit t state)
+      given-place place = rw (row-start limit t state (sym e ∙ z), es, eh)
+
+-- Two answers of asking for a row are one slice: all that the machine has of a slice is its place and its count.
+pub row-unique : (limit : ℕ) (t : RefT (List ℕ)) (state : ℕ) (r r′ : RefT (List ℕ))
+    → RowPart limit t state r → RowPart limit t state r′ → slice-vals r ≡ slice-vals r′
+row-unique limit t state r r′ x y = rw (x .place, x .bytes, y .place, y .bytes)

@@ -15,9 +15,9 @@ ghost use lib.Dec.{leb};
 ghost use lib.ListN.{length, getD, drop, replicate};
 ghost use Rattle.convention.specs.Numbers.{stateLimit, orElse};
 ghost use Rattle.convention.specs.Fields.{fieldNo, kindsAt, leftOverNo};
-ghost use Rattle.convention.specs.Tables.{tableKindOf, tableKindsNo, tableKindsOf, blankTableKind, statesAt, transitionOf, isTransition, transitionNo, transitionsNo, rowsAt, rowAt, tableNo, tableOf, blankTable, readTable, transition, rowNo, row as rowOf};
+ghost use Rattle.convention.specs.Tables.{tableKindOf, tableKindsNo, tableKindsOf, blankTableKind, statesAt, transitionOf, isTransition, transitionNo, transitionsNo, rowsAt, rowAt, tableNo, tableOf, blankTable, readTable, transition, rowNo};
 ghost use Rattle.convention.specs.Promised.{TableRead};
-ghost use Rattle.table.specs.Asked.{KindsThere, InTable};
+ghost use Rattle.table.specs.Asked.{KindsThere, InTable, RowPart};
 
 // The number of the kinds, 5 or 3 for the first that is wrong or missing, in a table that is at least as long as its head.
 // Each kind is parsed from the part of the table that starts at its first byte.
@@ -276,9 +276,10 @@ pub fn row_no(t: &[u8], state: usize) -> u8
     if state < states as usize { 0 } else { 13 }
 }
 
-// The row of a state: the caller's own bytes, four for each kind, and no copy; or the empty part, which refuses.
+// The row of a state: the caller's own bytes, four for each kind, and no copy, which lie `row_at` bytes behind the table's
+// first; or the empty part of the table, at its first byte, which refuses.
 pub fn row(t: &[u8], state: usize) -> &[u8]
-    ensures { λ r. ⌜ now r ≡ rowOf stateLimit (now (t .entry)) state ⌝ }
+    ensures { λ r. ⌜ RowPart stateLimit (t .entry) state r ⌝ }
 {
     if row_no(t, state) != 0 {
         return &t[..0];

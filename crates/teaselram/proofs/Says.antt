@@ -1,5 +1,5 @@
 -- Why the boundary's fields hold what they say: counts fit, and an answer that is known says what its case says.
-use Prim.Native.Nat.{ℕ, zero, suc, _*_, _≤_, _<_, _^_}
+use Prim.Native.Nat.{ℕ, zero, suc, _+_, _*_, _/_, _≤_, _<_, _^_}
 use mathlib.Core.Path.{_≡_, refl, sym, _∙_}
 use mathlib.Core.Bool.{Bool, true, false}
 use mathlib.Core.List.{List}
@@ -7,30 +7,32 @@ use native.Mathlib.Omega.{arith}
 use native.Mathlib.Nat.{mul-le-mul}
 use lib.Dec.{ltb, leb}
 use lib.ListN.{length}
-use borrow.Author.Tests.{leb-true, ltb-true}
+use borrow.Author.Tests.{leb-true, ltb-true, lt-ltb, le-ltb}
 use Rattle.convention.specs.declared.Building.{Building}
 use Rattle.convention.specs.declared.Judging.{Judging}
 use Rattle.convention.specs.declared.Judging.the-variants.{Clean, Fault}
 use Rattle.convention.specs.declared.Placing.{Placing}
-use Rattle.convention.specs.Numbers.{stateLimit, argumentLimit, orElse, Said, unless, refusal, placingSays, buildingSays, judgingSays}
-use Rattle.convention.specs.Tables.{tableNo, tableOf, statesOf, readTable, rowNo, rowAt}
+use Rattle.convention.specs.Numbers.{stateLimit, argumentLimit, orElse, unless, reading, readingNo, refusal, placingSays, buildingSays, judgingSays}
+use Rattle.convention.specs.Tables.{tableNo, tableOf, tableKind, readTable, rowNo, rowAt, row}
 use Rattle.convention.specs.Fields.{headOf}
 use Rattle.convention.specs.declared.TableAnswer.{TableAnswer}
-use Rattle.convention.specs.declared.Head.{Head}
+use Rattle.convention.specs.declared.SheetAnswer.{SheetAnswer}
 use Rattle.convention.specs.Lists.{Steps, recordLength, unknownAt, faultFrom, stopFrom, stateFrom, placing, placingAnswer, walkAnswer}
-use Rattle.convention.specs.Sheets.{sheetNo, sheetOf}
+use Rattle.convention.specs.Sheets.{sheetKindAt, firstStartAt, sheetNo, sheetOf, readSheet, sheetKind}
 use Rattle.convention.specs.Rules.{byRules, placeByRules}
 use Rattle.convention.specs.Walked.{byTable, placeByTable}
 use Rattle.convention.specs.Built.{builtStates, builtTable, buildNo, buildAnswer, build}
 use Rattle.convention.specs.Judged.{Judges}
 use Rattle.convention.proofs.Lists.{stop-le}
-use Rattle.convention.proofs.Numbers.{or-zero, unless-zero}
-use Rattle.convention.proofs.Tables.{table-read, table-given}
-use Rattle.convention.proofs.Sheets.{sheet-read}
+use Rattle.convention.proofs.Numbers.{or-zero, or-first, or-later, unless-zero}
+use Rattle.convention.proofs.Tables.{table-read, row-refused, row-tests, row-start, row-length, row-some}
+use Rattle.convention.proofs.Sheets.{sheet-read, first-start-fits}
+use Rattle.sheet.specs.Kinds.{KindThere}
 use Rattle.building.proofs.Readable.{built-length}
 use Rattle.judging.proofs.Unique.{judge-zero, unique}
 use Rattle.teaselram.specs.declared.Answer.{Answer}
-use Rattle.teaselram.specs.Says.{answerOf, rowGiven, rowSays, CountFits, LengthFits, ListFits, JudgeSays}
+use Rattle.teaselram.specs.declared.KindAnswer.{KindAnswer}
+use Rattle.teaselram.specs.Says.{answerOf, kindNo, kindRefusal, kindGiven, sheetKindFields, tableKindFields, sheetKindSays, tableKindSays, rowSays, CountFits, LengthFits, ListFits, JudgeSays}
 
 -- An answer that is known to be one of its cases says what that case says.
 pub known-says : (placing known : Placing) (a : Answer) → placing ≡ known → a ≡ answerOf (placingSays known) → a ≡ answerOf (placingSays placing)
@@ -75,46 +77,129 @@ unfolding placeByTable
 table-count t ks room answer e =
     rw e (record { fits = omega (arith, count-most argumentLimit (tableNo stateLimit t) (tableOf t .head .kinds) (byTable (tableOf t) t) ks room) })
 
--- A row that is refused says its number alone.
-refused-row : (n number : ℕ) (said : Said) → number ≡ n → (number ≡ 0 → ⊥) → answerOf (refusal number) ≡ answerOf (rowGiven n said)
-refused-row zero number said e nz = absurd (nz e)
-refused-row (suc n) number said e nz = rw e
-
-module _ (t : List ℕ) (state number : ℕ) (en : number ≡ rowNo stateLimit t state) where
-  pub row-refused : (number ≡ 0 → ⊥) → answerOf (refusal number) ≡ answerOf (rowSays stateLimit t state)
+-- The row's part: where it is empty, it was refused, since a row never is; where it is not, it was given, and its start and length fit.
+module _ (t : List ℕ) (state : ℕ) (part : List ℕ) (ep : part ≡ row stateLimit t state) where
+  pub row-empty : (number : ℕ) (answer : Answer) → length part ≡ 0 → number ≡ rowNo stateLimit t state → answer ≡ answerOf (refusal number)
+      → answer ≡ answerOf (rowSays stateLimit t state)
   unfolding rowSays
-  row-refused nz = refused-row (rowNo stateLimit t state) number _ en nz
+  row-empty number answer none en ea =
+      let nothing : length (row stateLimit t state) ≡ 0 = rw (← ep) none in
+      let refused = row-refused stateLimit t state (λ z. omega (arith, row-some stateLimit t state z)) in
+      rw (ea, en, refused .0, refused .1)
 
-  -- A row that is given: the table was read, and the row's start and length fit.
-  module _ (z : number ≡ 0) where
-    right : rowNo stateLimit t state ≡ 0
-    right = sym en ∙ z
+  module _ (some : length part ≡ 0 → ⊥) where
+    given : rowNo stateLimit t state ≡ 0
+    given = go (rowNo stateLimit t state) refl
+      where
+        go : (n : ℕ) → rowNo stateLimit t state ≡ n → rowNo stateLimit t state ≡ 0
+        go zero e = e
+        go (suc n) e = absurd (some (rw (ep, row-refused stateLimit t state (λ z. omega arith) .0)))
 
-    read : tableNo stateLimit t ≡ 0
-    unfolding rowNo
-    read = or-zero (tableNo stateLimit t) _ right .0
+    -- Its length says how many kinds there are.
+    part-length : length part ≡ 4 * headOf t .kinds
+    part-length = rw ep (row-length stateLimit t state given)
 
-    pub head-given : (given : TableAnswer) → given ≡ readTable stateLimit t → given .table .head ≡ headOf t
+    kinds-are : length part / 4 ≡ headOf t .kinds
+    kinds-are = omega (arith, part-length)
+
+    -- A table of at most 200 states and 8 kinds has at most 6,424 bytes, and a row at most 32.
+    row-bounds : (length part ≤ 32) × (rowAt (length part / 4) state ≤ 6424)
     unfolding tableOf
-    head-given given e = rw (e, table-given stateLimit t read)
-
-    start-most : rowAt (headOf t .kinds) state ≤ 6424
-    unfolding rowNo tableOf
-    start-most =
-        let promised = table-read stateLimit t read in
-        let inside = ltb-true state (statesOf t) (unless-zero (ltb state (statesOf t)) 13 (omega arith) (or-zero (tableNo stateLimit t) _ right .1)) in
+    row-bounds =
+        let tests = row-tests stateLimit t state given in
+        let promised = table-read stateLimit t (tests .0) in
         let row : 4 * headOf t .kinds ≤ 32 = omega (arith, promised .head .kinds) in
-        let before : state ≤ 200 = omega (arith, inside, promised .states) in
-        omega (arith, mul-le-mul row before, promised .head .kinds)
+        let before : state ≤ 200 = omega (arith, tests .1, promised .states) in
+        (omega (arith, part-length), rw kinds-are (omega (arith, mul-le-mul row before)))
 
-    module _ (h : Head) (eh : h ≡ headOf t) where
-      pub start-fits : rowAt (h .kinds) state < 2 ^ 32
-      start-fits = rw eh (omega (arith, start-most))
+    pub part-short : length part ≤ 32
+    part-short = row-bounds .0
 
-      pub row-given : (start : ℕ) → start ≡ rowAt (h .kinds) state
-          → _≡_ {A = Answer} (record { number = 0; fault = 0; count = 4 * h .kinds; value = start }) (answerOf (rowSays stateLimit t state))
-      unfolding rowSays
-      row-given start es = rw (right, es, eh)
+    pub start-fits : rowAt (length part / 4) state < 2 ^ 32
+    start-fits = omega (arith, row-bounds .1)
+
+    pub row-given : (start : ℕ) → start ≡ rowAt (length part / 4) state
+        → _≡_ {A = Answer} (record { number = 0; fault = 0; count = length part; value = start }) (answerOf (rowSays stateLimit t state))
+    unfolding rowSays
+    row-given start es = rw (given, row-start stateLimit t state given, es, kinds-are, ep)
+
+-- Asking for a kind of a file: the reader's number decides, and then the kind's.
+module _ (n m k number : ℕ) (e : number ≡ n) where
+  pub kind-unread : (number ≡ 0 → ⊥) → number ≡ kindNo n m k
+  kind-unread nz = or-first n _ number e nz
+
+  module _ (z : number ≡ 0) where
+    pub kind-found : k < m → 0 ≡ kindNo n m k
+    kind-found l = or-later n _ number 0 e z (rw (lt-ltb _ _ l))
+
+    pub kind-missing : m ≤ k → 9 ≡ kindNo n m k
+    kind-missing l = or-later n _ number 9 e z (rw (le-ltb _ _ l))
+
+-- The number that the reader's answer leads to is the file's own, whose head an answer that was read carries.
+number-asked : (n m m′ k number : ℕ) → (n ≡ 0 → m ≡ m′) → number ≡ kindNo (readingNo (reading n)) m k → number ≡ kindNo n m′ k
+number-asked zero m m′ k number same e = rw (← same refl) e
+number-asked (suc n) m m′ k number same e = e
+
+-- Where there is a number it is said alone; where there is none the file was read and has the kind, whose fields are said.
+kind-refused : (n number : ℕ) (answer fields : KindAnswer) → number ≡ n → (number ≡ 0 → ⊥) → answer ≡ kindRefusal number → answer ≡ kindGiven n fields
+kind-refused zero number answer fields e nz ea = absurd (nz e)
+kind-refused (suc n) number answer fields e nz ea = rw (← e) ea
+
+kind-known : (n m k number : ℕ) → number ≡ kindNo n m k → number ≡ 0 → (n ≡ 0) × (k < m)
+kind-known n m k number e z =
+    let both = or-zero n _ (sym e ∙ z) in
+    (both .0, ltb-true k m (unless-zero (ltb k m) 9 (omega arith) (both .1)))
+
+module _ (s : List ℕ) (k number : ℕ) (a : SheetAnswer) (ea : a ≡ readSheet s)
+    (en : number ≡ kindNo (readingNo (a .reading)) (a .sheet .head .kinds) k) where
+  sheet-number : number ≡ kindNo (sheetNo s) (headOf s .kinds) k
+  unfolding readSheet sheetOf
+  sheet-number = number-asked (sheetNo s) _ _ k number (λ z. rw z) (rw ea at en)
+
+  pub sheet-kind-refused : (answer : KindAnswer) → (number ≡ 0 → ⊥) → answer ≡ kindRefusal number → answer ≡ sheetKindSays s k
+  unfolding sheetKindSays
+  sheet-kind-refused answer nz e = kind-refused (kindNo (sheetNo s) (headOf s .kinds) k) number answer _ sheet-number nz e
+
+  module _ (z : number ≡ 0) where
+    sheet-known : (sheetNo s ≡ 0) × (k < headOf s .kinds)
+    sheet-known = kind-known (sheetNo s) (headOf s .kinds) k number sheet-number z
+
+    pub sheet-kind-there : KindThere s k
+    sheet-kind-there = record { read = sheet-known .0; known = sheet-known .1 }
+
+    pub sheet-kind-below : k < 8
+    unfolding sheetOf
+    sheet-kind-below = omega (arith, sheet-read s (sheet-known .0) .head .kinds, sheet-known .1)
+
+    pub first-start-below : firstStartAt s k < 65536
+    first-start-below = first-start-fits s (sheet-known .0) k (sheet-known .1)
+
+    pub sheet-kind-given : (at : ℕ) (answer : KindAnswer) → at ≡ sheetKindAt s k → answer ≡ sheetKindFields (sheetKind (a .sheet) k) (at + 4)
+        → answer ≡ sheetKindSays s k
+    unfolding sheetKindSays readSheet
+    sheet-kind-given at answer e is = rw (sym sheet-number ∙ z, is, ea, e, sheet-known .0)
+
+module _ (t : List ℕ) (k number : ℕ) (a : TableAnswer) (ea : a ≡ readTable stateLimit t)
+    (en : number ≡ kindNo (readingNo (a .reading)) (a .table .head .kinds) k) where
+  table-number : number ≡ kindNo (tableNo stateLimit t) (headOf t .kinds) k
+  unfolding readTable tableOf
+  table-number = number-asked (tableNo stateLimit t) _ _ k number (λ z. rw z) (rw ea at en)
+
+  pub table-kind-refused : (answer : KindAnswer) → (number ≡ 0 → ⊥) → answer ≡ kindRefusal number → answer ≡ tableKindSays stateLimit t k
+  unfolding tableKindSays
+  table-kind-refused answer nz e = kind-refused (kindNo (tableNo stateLimit t) (headOf t .kinds) k) number answer _ table-number nz e
+
+  module _ (z : number ≡ 0) where
+    table-known : (tableNo stateLimit t ≡ 0) × (k < headOf t .kinds)
+    table-known = kind-known (tableNo stateLimit t) (headOf t .kinds) k number table-number z
+
+    pub table-kind-below : k < 8
+    unfolding tableOf
+    table-kind-below = omega (arith, table-read stateLimit t (table-known .0) .head .kinds, table-known .1)
+
+    pub table-kind-given : (answer : KindAnswer) → answer ≡ tableKindFields (tableKind (a .table) k) → answer ≡ tableKindSays stateLimit t k
+    unfolding tableKindSays readTable
+    table-kind-given answer is = rw (sym table-number ∙ z, is, ea, table-known .0)
 
 -- An answer of building that is known says what its case says; the table's length fits.
 pub known-building : (building known : Building) (a : Answer) → building ≡ known → a ≡ answerOf (buildingSays known) → a ≡ answerOf (buildingSays building)

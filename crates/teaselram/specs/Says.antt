@@ -2,18 +2,24 @@
 use Prim.Native.Nat.{ℕ, zero, suc, _<_, _^_}
 use mathlib.Core.Path.{_≡_}
 use mathlib.Core.List.{List}
+use lib.Dec.{ltb}
+use lib.ListN.{length}
 use Rattle.convention.specs.declared.Head.{Head}
 use Rattle.convention.specs.declared.Placing.{Placing}
 use Rattle.convention.specs.declared.Building.{Building}
 use Rattle.convention.specs.declared.Judging.{Judging}
+use Rattle.convention.specs.declared.SheetKind.{SheetKind}
 use Rattle.convention.specs.declared.SheetAnswer.{SheetAnswer}
+use Rattle.convention.specs.declared.TableKind.{TableKind}
 use Rattle.convention.specs.declared.TableAnswer.{TableAnswer}
-use Rattle.convention.specs.Numbers.{Said, refusal, readingNo, placingSays, buildingSays, judgingSays}
+use Rattle.convention.specs.Numbers.{Said, orElse, unless, readingNo, placingSays, buildingSays, judgingSays}
 use Rattle.convention.specs.Judged.{Judges}
 use Rattle.convention.specs.Fields.{headOf}
-use Rattle.convention.specs.Tables.{rowNo, rowAt, rowLength}
+use Rattle.convention.specs.Sheets.{sheetNo, sheetOf, sheetKind, firstStartAt}
+use Rattle.convention.specs.Tables.{tableNo, tableOf, tableKind, rowNo, row, rowStart}
 use Rattle.teaselram.specs.declared.Answer.{Answer}
 use Rattle.teaselram.specs.declared.HeadAnswer.{HeadAnswer}
+use Rattle.teaselram.specs.declared.KindAnswer.{KindAnswer}
 
 -- The fields of `teaselram_answer`.
 abbrev pub answerOf : Said → Answer
@@ -37,14 +43,45 @@ sheetSays a = headSays (readingNo (a .reading)) (a .sheet .head) 0
 abbrev pub tableSays : TableAnswer → HeadAnswer
 tableSays a = headSays (readingNo (a .reading)) (a .table .head) (a .table .states)
 
--- A row: how long it is, and where it starts in the table; or the refusal's number.
-abbrev pub rowGiven : ℕ → Said → Said
-rowGiven zero said = said
-rowGiven (suc number) said = refusal (suc number)
+-- The fields of `teaselram_kind`: of a kind that the file has, and of one that is refused.
+abbrev pub kindSays : ℕ → ℕ → ℕ → ℕ → ℕ → KindAnswer
+kindSays size alignment flags starts first = record {
+  number = 0;
+  size = size;
+  alignment = alignment;
+  flags = flags;
+  starts = starts;
+  zero = 0;
+  «first_start» = first;
+}
 
+abbrev pub kindRefusal : ℕ → KindAnswer
+kindRefusal number = record { number = number; size = 0; alignment = 0; flags = 0; starts = 0; zero = 0; «first_start» = 0 }
+
+abbrev pub kindGiven : ℕ → KindAnswer → KindAnswer
+kindGiven zero answer = answer
+kindGiven (suc number) answer = kindRefusal (suc number)
+
+-- The number of asking for kind k of a file with m kinds: the reader's, then 9.
+abbrev pub kindNo : ℕ → ℕ → ℕ → ℕ
+kindNo number m k = orElse number (unless (ltb k m) 9)
+
+-- A sheet's kind: every field but the starts, and where in the sheet the first of them stands. A table's kind: size and alignment.
+abbrev pub sheetKindFields : SheetKind → ℕ → KindAnswer
+sheetKindFields kind first = kindSays (kind .size) (kind .alignment) (kind .flags) (kind .tries) first
+
+abbrev pub tableKindFields : TableKind → KindAnswer
+tableKindFields kind = kindSays (kind .size) (kind .alignment) 0 0 0
+
+unfoldable pub sheetKindSays : List ℕ → ℕ → KindAnswer
+sheetKindSays s k = kindGiven (kindNo (sheetNo s) (headOf s .kinds) k) (sheetKindFields (sheetKind (sheetOf s) k) (firstStartAt s k))
+
+unfoldable pub tableKindSays : ℕ → List ℕ → ℕ → KindAnswer
+tableKindSays limit t k = kindGiven (kindNo (tableNo limit t) (headOf t .kinds) k) (tableKindFields (tableKind (tableOf t) k))
+
+-- Asking for a row: the number, how long the part is, and where it starts in the table. A part that is refused is empty and starts at 0.
 unfoldable pub rowSays : ℕ → List ℕ → ℕ → Said
-rowSays limit t state =
-    rowGiven (rowNo limit t state) (record { number = 0; fault = 0; count = rowLength (headOf t .kinds); value = rowAt (headOf t .kinds) state })
+rowSays limit t state = record { number = rowNo limit t state; fault = 0; count = length (row limit t state); value = rowStart limit t state }
 
 -- The count of an answer of placing fits its two bytes.
 pub record CountFits (placing : Placing) : Type 0 where

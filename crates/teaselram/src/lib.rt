@@ -1,5 +1,5 @@
 // The static library: the calls of document 01 for C and Rust. A slice is a pointer and a length; nothing is written but `out`.
-// Each answer is one of two structs of eight bytes, by value: 01's number, 0 on success, and the values that 01 names for the
+// Each answer is one of three structs of eight bytes, by value: 01's number, 0 on success, and the values that 01 names for the
 // answer; every other field is 0.
 use convention::Building;
 use convention::Head;
@@ -14,7 +14,7 @@ ghost use Rattle.convention.specs.Sheets.{readSheet};
 ghost use Rattle.convention.specs.Tables.{readTable};
 ghost use Rattle.convention.specs.Rules.{placeByRules, rulesMemory};
 ghost use Rattle.convention.specs.Walked.{placeByTable, tableMemory};
-ghost use Rattle.teaselram.specs.Says.{answerOf, headSays, sheetSays, tableSays, rowSays, CountFits, LengthFits, ListFits, JudgeSays};
+ghost use Rattle.teaselram.specs.Says.{answerOf, headSays, sheetSays, tableSays, kindNo, kindRefusal, kindSays, sheetKindSays, tableKindSays, rowSays, CountFits, LengthFits, ListFits, JudgeSays};
 
 #[repr(C)]
 pub struct Answer {
@@ -33,6 +33,17 @@ pub struct HeadAnswer {
     pub kinds: u8,
     pub zero: u8,
     pub states: u16,
+}
+
+#[repr(C)]
+pub struct KindAnswer {
+    pub number: u8,
+    pub size: u8,
+    pub alignment: u8,
+    pub flags: u8,
+    pub starts: u8,
+    pub zero: u8,
+    pub first_start: u16,
 }
 
 fn reading_no(reading: Reading) -> u8
@@ -131,7 +142,48 @@ fn head_says(reading: Reading, head: Head, states: u16) -> HeadAnswer
     }
 }
 
-// Reads a sheet: its head. `states` is 0.
+// The number of asking for a kind of a file: the reader's, and then 9 where the file has no such kind.
+fn kind_no(reading: Reading, head: Head, kind: u64) -> u8
+    ensures { λ r. ⌜ r ≡ kindNo (readingNo reading) (head .kinds) kind ⌝ }
+{
+    let number = reading_no(reading);
+    if number != 0 {
+        return number;
+    }
+    if kind < head.kinds as u64 { 0 } else { 9 }
+}
+
+// What asking for a kind says where it is refused: the number, and nothing else.
+fn kind_refusal(number: u8) -> KindAnswer
+    ensures { λ r. ⌜ r ≡ kindRefusal number ⌝ }
+{
+    KindAnswer {
+        number,
+        size: 0,
+        alignment: 0,
+        flags: 0,
+        starts: 0,
+        zero: 0,
+        first_start: 0,
+    }
+}
+
+// What it says of a kind that the file has.
+fn kind_says(size: u8, alignment: u8, flags: u8, starts: u8, first_start: u16) -> KindAnswer
+    ensures { λ r. ⌜ r ≡ kindSays size alignment flags starts «first_start» ⌝ }
+{
+    KindAnswer {
+        number: 0,
+        size,
+        alignment,
+        flags,
+        starts,
+        zero: 0,
+        first_start,
+    }
+}
+
+// Reads a sheet: its head. `states` is 0. `teaselram_sheet_kind` answers the kinds, one by one.
 #[no_mangle]
 pub extern "C" fn teaselram_read_sheet(sheet: &[u8]) -> HeadAnswer
     ensures { λ r. ⌜ r ≡ sheetSays (readSheet (now (sheet .entry))) ⌝ }
@@ -143,7 +195,7 @@ pub extern "C" fn teaselram_read_sheet(sheet: &[u8]) -> HeadAnswer
     head_says(reading, head, 0)
 }
 
-// Reads a table: its head and the number of its states.
+// Reads a table: its head and the number of its states. `teaselram_table_kind` answers the kinds, one by one.
 #[no_mangle]
 pub extern "C" fn teaselram_read_table(table: &[u8]) -> HeadAnswer
     ensures { λ r. ⌜ r ≡ tableSays (readTable stateLimit (now (table .entry))) ⌝ }
@@ -153,6 +205,45 @@ pub extern "C" fn teaselram_read_table(table: &[u8]) -> HeadAnswer
     let given = read.table;
     let head = given.head;
     head_says(reading, head, given.states)
+}
+
+// Asks for one kind of a sheet, by any number: its size, alignment, flags and number of starts, and where in the sheet its
+// first start stands, or would if it has none. Start i of the kind is byte `first_start + i` of the sheet, for each i below
+// `starts`: `start-is` of crates/convention/proofs/Sheets.antt; and these bytes lie within the sheet: `starts-within` there.
+#[no_mangle]
+pub extern "C" fn teaselram_sheet_kind(sheet: &[u8], kind: u64) -> KindAnswer
+    ensures { λ r. ⌜ r ≡ sheetKindSays (now (sheet .entry)) kind ⌝ }
+{
+    let read = sheet::read_sheet(sheet);
+    let reading = read.reading;
+    let given = read.sheet;
+    let head = given.head;
+    let number = kind_no(reading, head, kind);
+    if number != 0 {
+        return kind_refusal(number);
+    }
+    let kinds = given.kinds;
+    let asked = kinds[kind as usize];
+    let first = (sheet::kind_at(sheet, kind as usize) + 4) as u16;
+    kind_says(asked.size, asked.alignment, asked.flags, asked.tries, first)
+}
+
+// Asks for one kind of a table, by any number: its size and alignment. Every other field is 0.
+#[no_mangle]
+pub extern "C" fn teaselram_table_kind(table: &[u8], kind: u64) -> KindAnswer
+    ensures { λ r. ⌜ r ≡ tableKindSays stateLimit (now (table .entry)) kind ⌝ }
+{
+    let read = table::read_table(table);
+    let reading = read.reading;
+    let given = read.table;
+    let head = given.head;
+    let number = kind_no(reading, head, kind);
+    if number != 0 {
+        return kind_refusal(number);
+    }
+    let shapes = given.kinds;
+    let shape = shapes[kind as usize];
+    kind_says(shape.size, shape.alignment, 0, 0, 0)
 }
 
 // Places a list of kinds by the rules of a sheet.
@@ -194,23 +285,23 @@ pub extern "C" fn teaselram_judge(table: &[u8], out: &mut [u8]) -> Answer
     judging_says(verdict)
 }
 
-// Asks for the row of a state, any number: how long it is, and where it starts in the table.
+// Asks for the row of a state, any number: how long it is, and where it starts in the table. A row is never empty, so an
+// empty part means refused, and a second question answers the number.
 #[no_mangle]
 pub extern "C" fn teaselram_row(table: &[u8], state: u64) -> Answer
     ensures { λ r. ⌜ r ≡ answerOf (rowSays stateLimit (now (table .entry)) state) ⌝ }
 {
-    let number = table::row_no(table, state as usize);
-    if number != 0 {
-        return refusal(number);
+    let row = table::row(table, state as usize);
+    let length = row.len();
+    if length == 0 {
+        return refusal(table::row_no(table, state as usize));
     }
-    let read = table::read_table(table);
-    let given = read.table;
-    let head = given.head;
-    let start = table::row_at(head.kinds, state as usize);
+    let kinds = (length / 4) as u8;
+    let start = table::row_at(kinds, state as usize);
     Answer {
         number: 0,
         fault: 0,
-        count: 4 * head.kinds as u16,
+        count: length as u16,
         value: start as u32,
     }
 }

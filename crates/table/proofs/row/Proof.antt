@@ -3,7 +3,7 @@ use Rattle.convention.specs.Tables.{rowAt, rowLength}
 use lib.ListN.{length}
 use Prim.Native.Nat.{_+_, _≤_}
 use native.Mathlib.Omega.{arith}
-use Rattle.table.proofs.Rows.{row-refused, row-within, row-given}
+use Rattle.table.proofs.Rows.{refused-bytes, refused-place, row-within, given-bytes, given-place}
 use borrow.Author.Needs.{needs}
 use Rattle.table.proofs.row.Statement.{statement}
 use Rattle.table.proofs.row.Tie as tie
@@ -11,7 +11,7 @@ use Rattle.table.proofs.row.Tie as tie
 within : (c : tie.After-head-of)
     → rowAt (c .head-of .result .kinds) (c .before .before .before .before .args .state) + rowLength (c .head-of .result .kinds)
     ≤ length (c .before .before .before .before .args .t .now)
-within c = row-within _ _ _ _ _ (c .before .before .row-no .ensures) (c .before .if1 .left) (c .head-of .ensures)
+within c = row-within _ _ _ _ (c .before .before .row-no .ensures) _ (c .before .if1 .left) (c .head-of .ensures)
 
 row-no-requires : tie.Need-row-no-requires
 row-no-requires c κs = search needs
@@ -20,7 +20,7 @@ slice-aggregate-result : tie.Need-slice-aggregate-result
 slice-aggregate-result c = search needs
 
 returns : tie.Need-returns
-returns c = search (row-refused, needs)
+returns c = record { bytes = search (refused-bytes, needs); place = search (refused-place, needs) }
 
 head-of-requires : tie.Need-head-of-requires
 head-of-requires c κs = search needs
@@ -47,7 +47,7 @@ part-result-end : tie.Need-part-result-end
 part-result-end c = omega (arith, within (c .before .before))
 
 returns-2 : tie.Need-returns-2
-returns-2 c = search (row-given, needs)
+returns-2 c = record { bytes = search (given-bytes, needs); place = search (given-place, needs) }
 
 pub row-spec : {M : Type 1} → statement M
 row-spec =

@@ -1,0 +1,64 @@
+-- `teaselram_sheet_kind`: the number decides; a kind that is there is one of eight, and its first start stands within the sheet.
+use Rattle.teaselram.proofs.Says.{sheet-kind-refused, sheet-kind-there, sheet-kind-below, first-start-below, sheet-kind-given}
+use Prim.Native.Nat.{_+_, _<_}
+use native.Mathlib.Omega.{arith}
+use borrow.Author.Needs.{needs}
+use Rattle.teaselram.proofs.teaselram_sheet_kind.Statement.{statement}
+use Rattle.teaselram.proofs.teaselram_sheet_kind.Tie as tie
+
+read-sheet-requires : tie.Need-read-sheet-requires
+read-sheet-requires c κs = search needs
+
+kind-no-requires : tie.Need-kind-no-requires
+kind-no-requires c κs = search needs
+
+kind-refusal-requires : tie.Need-kind-refusal-requires
+kind-refusal-requires c κs = search needs
+
+returns : tie.Need-returns
+returns c = search (sheet-kind-refused, needs)
+
+-- The kind is one of eight.
+below : (c : tie.After-kinds) → c .before .before .before .before .before .before .before .args .kind < 8
+below c = sheet-kind-below _ _ _ _ (c .before .before .before .before .before .read-sheet .ensures) (c .before .before .kind-no .ensures) (c .before .if1 .left)
+
+mul-asked : tie.Need-mul-asked
+mul-asked c = omega (arith, below c)
+
+array-copy-out-asked : tie.Need-array-copy-out-asked
+array-copy-out-asked c = omega (arith, below c)
+
+kind-at-requires : tie.Need-kind-at-requires
+kind-at-requires c κs = search (sheet-kind-there, needs)
+
+-- Its first start stands below 65,536.
+fits : (c : tie.After-kind-at) → c .kind-at .result + 4 < 65536
+fits c = rw (c .kind-at .ensures) (first-start-below _ _ _ _ (c .before .before .before .before .before .before .before .read-sheet .ensures) (c .before .before .before .before .kind-no .ensures) (c .before .before .before .if1 .left))
+
+add-first : tie.Need-add-first
+add-first c = omega (arith, fits c)
+
+cast-first : tie.Need-cast-first
+cast-first c = omega (arith, fits c)
+
+kind-says-requires : tie.Need-kind-says-requires
+kind-says-requires c κs = search needs
+
+returns-2 : tie.Need-returns-2
+returns-2 c = search (sheet-kind-given, needs)
+
+pub teaselram-sheet-kind-spec : {M : Type 1} → statement M
+teaselram-sheet-kind-spec =
+    tie.close
+    (tie.spec
+    read-sheet-requires
+    kind-no-requires
+    kind-refusal-requires
+    returns
+    mul-asked
+    array-copy-out-asked
+    kind-at-requires
+    add-first
+    cast-first
+    kind-says-requires
+    returns-2)
