@@ -9,9 +9,21 @@
  * - takes each slice as a pointer and a length. No pointer may be NULL, also where its length is 0, and `out` may not
  *   overlap what the call reads;
  * - reads nothing but the slices, writes nothing but `out`, keeps nothing, allocates nothing;
- * - answers by value one of the two structs below. `number` is 0 on success and the refusal's number otherwise; every field
- *   that is not named for an answer is 0;
+ * - answers by value one of the three structs below. `number` is 0 on success and the refusal's number otherwise; every
+ *   field that is not named for an answer is 0;
  * - leaves `out` as it was where it refuses, and otherwise the bytes of `out` behind those it writes.
+ *
+ * In C and C++ a slice of no bytes may have a NULL pointer, as `std::vector<uint8_t>().data()` may be. Pass a pointer to any
+ * byte in its place; nothing is read or written there:
+ *
+ *     uint8_t none = 0;
+ *     answer = teaselram_place_by_table(table, table_len, len ? kinds : &none, len, len ? out : &none, len * 6);
+ *
+ * What to link: target/staticlib/libteaselram.a, which `rt staticlib teaselram` writes. It is position-independent code for
+ * x86-64 Linux, and needs of its host memcpy, memset and TEASELRAM_MOST_STACK bytes of stack, nothing else. The kit writes
+ * no code for Arm. There the tests link target/emulated/libteaselram.a, which `tests/emulated/build` makes: it has the same
+ * calls, and the x86-64 code answers each in a second process under the kit's emulator. It is a way to test and no product.
+ * A whole x86-64 program with the real library in it runs on Arm by `tests/emulated/run PROGRAM`.
  */
 #ifndef TEASELRAM_H
 #define TEASELRAM_H
@@ -39,6 +51,13 @@ extern "C" {
 /* The room that judging needs for a table of 200 states: two bytes a state. */
 #define TEASELRAM_LONGEST_LIST (2 * TEASELRAM_MOST_STATES)
 
+/*
+ * The bytes of stack that do for any call, its return address and glibc's memcpy and memset included. Judging needs the most;
+ * 2,560 do for building and 1,024 for all others. Not proved but measured, on a painted stack: tests/c/stack.c does so, and
+ * the frames of the compiled code add up to what it finds.
+ */
+#define TEASELRAM_MOST_STACK 4096
+
 /* The numbers of refusals. */
 enum teaselram_refusal {
     TEASELRAM_ACCEPTED = 0,
@@ -50,7 +69,7 @@ enum teaselram_refusal {
     TEASELRAM_LEFT_OVER = 6,          /* bytes left over */
     TEASELRAM_WRONG_TRANSITION = 7,   /* a transition outside its values */
     TEASELRAM_TOO_MANY_ARGUMENTS = 8, /* more than 400 arguments */
-    TEASELRAM_UNKNOWN_KIND = 9,       /* a kind in the list that there is not; count: the first such position, from 0 */
+    TEASELRAM_UNKNOWN_KIND = 9,       /* a kind that there is not; placing, count: the first such position, from 0 */
     TEASELRAM_FAULTY_STEP = 10,       /* a faulty step; count: its position, from 0; fault: its fault */
     TEASELRAM_TOO_MANY_STATES = 11,   /* lists of the sheet's kinds reach more than 200 allocation states */
     TEASELRAM_SHORT_OUTPUT = 12,      /* the lent output is shorter than needed */
@@ -72,6 +91,12 @@ enum teaselram_form {
     TEASELRAM_FORM_STACK = 2
 };
 
+/* The flags of a sheet's kind, of which it may have both. */
+enum teaselram_flag {
+    TEASELRAM_MAY_USE_STACK = 1,
+    TEASELRAM_CLOSING = 2 /* where it is placed, the runs of the starts that were tried and not taken become unavailable */
+};
+
 /* What a call answers that does more than read; each call says what `fault`, `count` and `value` are. */
 struct teaselram_answer {
     uint8_t number;
@@ -91,12 +116,25 @@ struct teaselram_head {
     uint16_t states;   /* N, 1 to 200; 0 for a sheet */
 };
 
+/* What asking for a kind answers: its fields. A table's kind has size and alignment alone, and 0 in the others. */
+struct teaselram_kind {
+    uint8_t number;
+    uint8_t size;         /* 1 to 64 */
+    uint8_t alignment;    /* 1, 2, 4, 8 or 16, at most A */
+    uint8_t flags;        /* a sum of enum teaselram_flag */
+    uint8_t starts;       /* t, how many start registers it has: 0 to 16 */
+    uint8_t zero;         /* always 0 */
+    uint16_t first_start; /* where in the sheet the first of them stands, with the others behind it, or would stand */
+};
+
 #if defined(__cplusplus) && __cplusplus >= 201103L
 static_assert(sizeof(struct teaselram_answer) == 8, "an answer has eight bytes");
 static_assert(sizeof(struct teaselram_head) == 8, "a head has eight bytes");
+static_assert(sizeof(struct teaselram_kind) == 8, "a kind has eight bytes");
 #elif defined(__STDC_VERSION__) && __STDC_VERSION__ >= 201112L
 _Static_assert(sizeof(struct teaselram_answer) == 8, "an answer has eight bytes");
 _Static_assert(sizeof(struct teaselram_head) == 8, "a head has eight bytes");
+_Static_assert(sizeof(struct teaselram_kind) == 8, "a kind has eight bytes");
 #endif
 
 /*
@@ -112,6 +150,21 @@ struct teaselram_head teaselram_read_sheet(const uint8_t *sheet, size_t sheet_le
  * Refuses with 1, and then, as the bytes are read left to right, with 2, 3, 4, 5 or 7; 6 comes last.
  */
 struct teaselram_head teaselram_read_table(const uint8_t *table, size_t table_len);
+
+/*
+ * Asks for a kind of a sheet by its number, counted from 0; any number may be asked for.
+ * Answers the kind's fields. Its start registers are the sheet's own bytes: `starts` of them, from `first_start` on.
+ * Writes nothing.
+ * Refuses as reading the sheet does, then with 9 where it has no such kind.
+ */
+struct teaselram_kind teaselram_sheet_kind(const uint8_t *sheet, size_t sheet_len, uint64_t kind);
+
+/*
+ * Asks for a kind of a table by its number, counted from 0; any number may be asked for.
+ * Answers the kind's size and alignment. Writes nothing.
+ * Refuses as reading the table does, then with 9 where it has no such kind.
+ */
+struct teaselram_kind teaselram_table_kind(const uint8_t *table, size_t table_len, uint64_t kind);
 
 /*
  * Asks for the row of a state: the table's own bytes, four for each kind.

@@ -1,8 +1,11 @@
 /*
- * Builds the table of sheet S, judges it, and places a list of arguments by it; then shows what a faulty table looks like.
- * From the top of the repository, after `rt staticlib teaselram`:
+ * Reads sheet S and its kinds, builds its table, judges it, and places lists of arguments by it, the empty one too; then
+ * shows what a faulty table looks like. From the top of the repository, after `rt staticlib teaselram`, on x86-64:
  *
  *   gcc -std=c99 -Iinclude -o target/build_judge_place examples/c/build_judge_place.c target/staticlib/libteaselram.a
+ *
+ * That archive is x86-64 code. To try this on Arm, run `tests/emulated/build` and link target/emulated/libteaselram.a in its
+ * place: it hands each call to the x86-64 code under the kit's emulator, as the tests do there.
  */
 #include <stdio.h>
 #include <string.h>
@@ -29,6 +32,19 @@ static int refused(const char *call, struct teaselram_answer answer)
 {
     printf("%s: refused %d\n", call, answer.number);
     return 1;
+}
+
+/* Prints a kind of a sheet that was read; its start registers stand in the sheet. */
+static void print_kind(const uint8_t *sheet, size_t sheet_len, enum kind number)
+{
+    struct teaselram_kind kind = teaselram_sheet_kind(sheet, sheet_len, number);
+    const uint8_t *starts = sheet + kind.first_start;
+    printf("%s: size %d, alignment %d, %s, starts", NAMES[number], kind.size, kind.alignment,
+           kind.flags & TEASELRAM_MAY_USE_STACK ? "stack" : "no stack");
+    for (size_t i = 0; i < kind.starts; i++) {
+        printf(" %d", starts[i]);
+    }
+    printf("\n");
 }
 
 /* Builds the sheet's table and judges it. Answers the table's length, 0 where a call refuses. */
@@ -69,12 +85,13 @@ static void print_record(enum kind kind, const uint8_t record[TEASELRAM_RECORD_L
     printf("%s: %s %lu to %lu\n", NAMES[kind], where, first, last);
 }
 
-static int place(const uint8_t *table, size_t table_len)
+/* Places a list. `kinds` may be NULL where `count` is 0; the call then gets a pointer to a byte that it does not touch. */
+static int place(const uint8_t *table, size_t table_len, const uint8_t *kinds, size_t count)
 {
-    static const uint8_t kinds[] = {CHAR, INT, INT, DOUBLE, INT};
-    uint8_t records[sizeof kinds * TEASELRAM_RECORD_LENGTH];
+    uint8_t records[TEASELRAM_MOST_ARGUMENTS * TEASELRAM_RECORD_LENGTH];
+    uint8_t none = 0;
     struct teaselram_answer placed =
-        teaselram_place_by_table(table, table_len, kinds, sizeof kinds, records, sizeof records);
+        teaselram_place_by_table(table, table_len, count ? kinds : &none, count, records, sizeof records);
     if (placed.number != TEASELRAM_ACCEPTED) {
         return refused("place", placed);
     }
@@ -87,6 +104,7 @@ static int place(const uint8_t *table, size_t table_len)
 
 int main(void)
 {
+    static const uint8_t kinds[] = {CHAR, INT, INT, DOUBLE, INT};
     uint8_t table[TEASELRAM_LONGEST_TABLE];
     uint8_t stackless[sizeof S];
     struct teaselram_head head = teaselram_read_sheet(S, sizeof S);
@@ -97,8 +115,16 @@ int main(void)
     }
     printf("sheet: %d registers of %d bytes, stack modulus %d, %d kinds\n", head.registers, head.width, head.modulus,
            head.kinds);
+    for (int kind = 0; kind < head.kinds; kind++) {
+        print_kind(S, sizeof S, (enum kind)kind);
+    }
     length = build_and_judge(S, sizeof S, table);
-    if (length == 0 || place(table, length) != 0) {
+    if (length == 0 || place(table, length, kinds, sizeof kinds) != 0) {
+        return 1;
+    }
+
+    printf("the empty list\n");
+    if (place(table, length, NULL, 0) != 0) {
         return 1;
     }
 

@@ -1,29 +1,30 @@
 //! Links the static library that `rt staticlib teaselram` writes at the top of the repository. Its code is for x86-64; for any
-//! other processor links the calls that `tests/emulated/build` makes, which run it under the kit's emulator.
-use std::{env, fs, path::PathBuf, time::SystemTime};
+//! other processor links the calls that `tests/emulated/build` makes, which run it under the kit's emulator. Those are linked
+//! on x86-64 too where TEASELRAM_EMULATED is set.
+use std::{env, fs, path::PathBuf};
 
 fn main() {
     let mut folder = "target/staticlib";
-    let proved = written(folder, "rt staticlib teaselram");
-    if env::var("CARGO_CFG_TARGET_ARCH").unwrap() != "x86_64" {
+    let proved = written(folder, "libteaselram.a", "rt staticlib teaselram");
+    println!("cargo:rerun-if-env-changed=TEASELRAM_EMULATED");
+    let native = env::var("CARGO_CFG_TARGET_ARCH").unwrap() == "x86_64";
+    if !native || env::var_os("TEASELRAM_EMULATED").is_some() {
         folder = "target/emulated";
+        written(folder, "libteaselram.a", "tests/emulated/build");
         assert!(
-            written(folder, "tests/emulated/build") >= proved,
-            "target/emulated has an older library: run `tests/emulated/build` again"
+            written(folder, "proved.a", "tests/emulated/build") == proved,
+            "target/emulated has another library: run `tests/emulated/build` again"
         );
     }
     println!("cargo:rustc-link-search=native={}", path(folder).display());
     println!("cargo:rustc-link-lib=static=teaselram");
 }
 
-/// When `by` wrote the archive in this folder.
-fn written(folder: &str, by: &str) -> SystemTime {
-    let archive = path(folder).join("libteaselram.a");
+/// The archive that `by` writes in this folder.
+fn written(folder: &str, name: &str, by: &str) -> Vec<u8> {
+    let archive = path(folder).join(name);
     println!("cargo:rerun-if-changed={}", archive.display());
-    match fs::metadata(archive) {
-        Ok(about) => about.modified().expect("the time of a file"),
-        Err(_) => panic!("{folder}/libteaselram.a is missing: run `{by}` first"),
-    }
+    fs::read(archive).unwrap_or_else(|_| panic!("{folder}/{name} is missing: run `{by}` first"))
 }
 
 /// A folder below the top of the repository.

@@ -3,7 +3,9 @@
  * which runs under the kit's emulator, and copies back the answer and the whole of `out`. The tests link this in the
  * library's place, so nothing here looks at what it carries.
  *
- * One process serves all threads, started by the first call; it ends when this program does, as its input ends then.
+ * The program that serves is part of this one, byte for byte as tests/emulated/build linked it, so that no other can be
+ * found in its place, wherever this one is copied. One process serves all threads, started by the first call; it ends when
+ * this program does, as its input ends then.
  */
 #define _GNU_SOURCE
 
@@ -13,17 +15,28 @@
 #include <stdio.h>
 #include <stdlib.h>
 #include <string.h>
+#include <sys/mman.h>
 #include <sys/socket.h>
 #include <unistd.h>
 
 #include "request.h"
 #include "teaselram.h"
 
-#if !defined(RUN) || !defined(SERVE)
-#error "tests/emulated/build says where the emulator's script and the program to serve are"
+#if !defined(EMULATE) || !defined(SERVE)
+#error "tests/emulated/build says how this machine runs x86-64 code, and where the program that serves is"
 #endif
 
 extern char **environ;
+
+/* The program that serves, which is x86-64 code and only data here. */
+extern const uint64_t serve_len;
+extern const uint8_t serve[];
+__asm__(".pushsection .rodata\n"
+        ".balign 8\n"
+        "serve_len: .quad 2f - 1f\n"
+        "serve:\n"
+        "1: .incbin \"" SERVE "\"\n"
+        "2: .popsection\n");
 
 /* Held for a whole call, as replies come in the order of requests. */
 static pthread_mutex_t one_at_a_time = PTHREAD_MUTEX_INITIALIZER;
@@ -49,13 +62,31 @@ static _Noreturn void fail(const char *what, int number)
     abort();
 }
 
+/* Writes the program that serves to a file without a name, which stays open in the processes that are started. */
+static int open_serve(void)
+{
+    int program = memfd_create("serve", 0);
+    size_t done = 0;
+    if (program < 0)
+        fail("there is no file for the program that serves", errno);
+    while (done < serve_len) {
+        ssize_t written = write(program, serve + done, serve_len - done);
+        if (written <= 0)
+            fail("there is no room for the program that serves", errno);
+        done += (size_t)written;
+    }
+    return program;
+}
+
 /* Starts the process that serves. The sockets are closed in every other process that a thread starts meanwhile. */
 static void start(void)
 {
-    char *arguments[] = {RUN, SERVE, NULL};
+    char path[32];
+    char *arguments[] = {EMULATE, path, NULL};
     posix_spawn_file_actions_t actions;
-    int ends[2], failed;
+    int ends[2], failed, program = open_serve();
     pid_t process;
+    snprintf(path, sizeof path, "/proc/self/fd/%d", program);
     if (socketpair(AF_UNIX, SOCK_STREAM | SOCK_CLOEXEC, 0, ends) != 0)
         fail("no connection", errno);
     failed = posix_spawn_file_actions_init(&actions);
@@ -64,10 +95,11 @@ static void start(void)
     if (!failed)
         failed = posix_spawn_file_actions_adddup2(&actions, ends[1], STDOUT_FILENO);
     if (!failed)
-        failed = posix_spawn(&process, RUN, &actions, NULL, arguments, environ);
+        failed = posix_spawn(&process, arguments[0], &actions, NULL, arguments, environ);
     if (failed)
-        fail(RUN " does not start", failed);
+        fail("the kit's emulator does not start", failed);
     posix_spawn_file_actions_destroy(&actions);
+    close(program);
     close(ends[1]);
     connection = ends[0];
 }
@@ -136,6 +168,15 @@ static struct teaselram_head forward_read(enum call call, const uint8_t *file, s
     return head;
 }
 
+static struct teaselram_kind forward_kind(enum call call, const uint8_t *file, size_t file_len, uint64_t which)
+{
+    struct request request = {.call = call, .which = which, .file_len = file_len};
+    struct slices slices = {.file = file};
+    struct teaselram_kind kind;
+    forward(&request, slices, &kind);
+    return kind;
+}
+
 static struct teaselram_answer forward_call(const struct request *request, struct slices slices)
 {
     struct teaselram_answer answer;
@@ -153,9 +194,19 @@ struct teaselram_head teaselram_read_table(const uint8_t *table, size_t table_le
     return forward_read(READ_TABLE, table, table_len);
 }
 
+struct teaselram_kind teaselram_sheet_kind(const uint8_t *sheet, size_t sheet_len, uint64_t kind)
+{
+    return forward_kind(SHEET_KIND, sheet, sheet_len, kind);
+}
+
+struct teaselram_kind teaselram_table_kind(const uint8_t *table, size_t table_len, uint64_t kind)
+{
+    return forward_kind(TABLE_KIND, table, table_len, kind);
+}
+
 struct teaselram_answer teaselram_row(const uint8_t *table, size_t table_len, uint64_t state)
 {
-    struct request request = {.call = ROW, .state = state, .file_len = table_len};
+    struct request request = {.call = ROW, .which = state, .file_len = table_len};
     struct slices slices = {.file = table};
     return forward_call(&request, slices);
 }

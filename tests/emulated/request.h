@@ -13,19 +13,19 @@
 #error "both sides send numbers as they have them, and x86-64 has them little-endian"
 #endif
 
-/* The seven calls of teaselram.h. */
-enum call { READ_SHEET, READ_TABLE, ROW, PLACE_BY_RULES, PLACE_BY_TABLE, BUILD, JUDGE };
+/* The nine calls of teaselram.h. */
+enum call { READ_SHEET, READ_TABLE, SHEET_KIND, TABLE_KIND, ROW, PLACE_BY_RULES, PLACE_BY_TABLE, BUILD, JUDGE };
 
-/* What a call is given. A slice that a call does not have is sent with length 0, and so is a state. */
+/* What a call is given. What it does not have is sent as 0, a slice by its length. */
 struct request {
     uint64_t call;
-    uint64_t state;
+    uint64_t which;    /* the kind or the state that is asked for */
     uint64_t file_len; /* the sheet or the table */
     uint64_t kinds_len;
     uint64_t out_len;
 };
 
-/* Either struct that a call answers has so many bytes; the header asserts it. */
+/* Each struct that a call answers has so many bytes; the header asserts it. */
 #define ANSWER_LEN 8
 
 /* The most bytes of one slice: far more than a file can say of itself (65,537), and the tests go a little beyond that. */

@@ -1,7 +1,7 @@
 /*
  * The proved library, served to programs for another processor: reads requests from standard input, makes each call and
- * writes its reply to standard output, until the input ends. It is x86-64 code, runs under the kit's emulator, and
- * tests/emulated/build links it with the library.
+ * writes its reply to standard output, until the input ends. It is x86-64 code and runs under the kit's emulator;
+ * tests/emulated/build links it with the library and puts it into the archive that sends the requests.
  *
  * The tests cannot see this memory, so what they see elsewhere is held here: a call that touches a byte behind a slice gets
  * a fault from the system, and one that writes before a slice or into its input is found out after it. Either ends the
@@ -117,18 +117,25 @@ static void hold_input(void)
     hold_margin(&out);
 }
 
-static struct teaselram_head read_head(uint64_t call)
+static struct teaselram_head head(uint64_t call)
 {
     if (call == READ_SHEET)
         return teaselram_read_sheet(file.bytes, file.len);
     return teaselram_read_table(file.bytes, file.len);
 }
 
-static struct teaselram_answer answer(uint64_t call, uint64_t state)
+static struct teaselram_kind kind(uint64_t call, uint64_t which)
+{
+    if (call == SHEET_KIND)
+        return teaselram_sheet_kind(file.bytes, file.len, which);
+    return teaselram_table_kind(file.bytes, file.len, which);
+}
+
+static struct teaselram_answer answer(uint64_t call, uint64_t which)
 {
     switch (call) {
     case ROW:
-        return teaselram_row(file.bytes, file.len, state);
+        return teaselram_row(file.bytes, file.len, which);
     case PLACE_BY_RULES:
         return teaselram_place_by_rules(file.bytes, file.len, kinds.bytes, kinds.len, out.bytes, out.len);
     case PLACE_BY_TABLE:
@@ -146,10 +153,13 @@ static struct teaselram_answer answer(uint64_t call, uint64_t state)
 static void make_call(const struct request *request)
 {
     if (request->call == READ_SHEET || request->call == READ_TABLE) {
-        struct teaselram_head head = read_head(request->call);
-        memcpy(goes, &head, ANSWER_LEN);
+        struct teaselram_head said = head(request->call);
+        memcpy(goes, &said, ANSWER_LEN);
+    } else if (request->call == SHEET_KIND || request->call == TABLE_KIND) {
+        struct teaselram_kind said = kind(request->call, request->which);
+        memcpy(goes, &said, ANSWER_LEN);
     } else {
-        struct teaselram_answer said = answer(request->call, request->state);
+        struct teaselram_answer said = answer(request->call, request->which);
         memcpy(goes, &said, ANSWER_LEN);
     }
 }

@@ -1,9 +1,9 @@
 //! One call of the library held against the second program's: the answer, and the whole of the lent memory. Each function
 //! answers what the second program does, which is then also what the library answered.
 
-use reference::{Placed, Refusal, Sheet, Table, Verdict};
+use reference::{Placed, Refusal, Sheet, SheetKind, Table, TableKind, Verdict};
 
-use crate::Lent;
+use crate::{kinds, Lent};
 
 /// What the library answers, in the second program's terms.
 fn same<T>(answer: Result<T, teaselram::Refusal>) -> Result<T, Refusal> {
@@ -44,6 +44,37 @@ pub fn read_table(table: &[u8]) -> Result<Table, Refusal> {
     let expected = reference::read_table(table);
     let wanted = wanted(&expected, |table| head(&table.head, table.rows.len()));
     assert_eq!(answer, wanted, "{table:02X?}");
+    expected
+}
+
+/// Asking for a kind of a sheet, whose starts must be the sheet's own bytes and no copy.
+pub fn sheet_kind(sheet: &[u8], kind: u64) -> Result<SheetKind, Refusal> {
+    let answer = same(teaselram::sheet_kind(sheet, kind));
+    let expected = kinds::of_sheet(sheet, kind);
+    let wanted = wanted(&expected, |(kind, first_start)| teaselram::SheetKind {
+        size: kind.size,
+        alignment: kind.alignment,
+        flags: kind.flags,
+        starts: &sheet[*first_start..first_start + kind.starts.len()],
+    });
+    assert_eq!(answer, wanted, "kind {kind} of {sheet:02X?}");
+    assert_eq!(
+        answer.map(|kind| kind.starts.as_ptr_range()),
+        wanted.map(|kind| kind.starts.as_ptr_range()),
+        "kind {kind} of {sheet:02X?}"
+    );
+    expected.map(|(kind, _)| kind)
+}
+
+/// Asking for a kind of a table.
+pub fn table_kind(table: &[u8], kind: u64) -> Result<TableKind, Refusal> {
+    let answer = same(teaselram::table_kind(table, kind));
+    let expected = kinds::of_table(table, kind);
+    let wanted = wanted(&expected, |kind| teaselram::TableKind {
+        size: kind.size,
+        alignment: kind.alignment,
+    });
+    assert_eq!(answer, wanted, "kind {kind} of {table:02X?}");
     expected
 }
 

@@ -1,6 +1,6 @@
 //! The proved library and the second program side by side, for the tests: `compare` has each call, `Lent` the memory lent to
-//! it, `damage` what spoils a file, `tables` tables made for the judge, `raw` the answers with all their fields, and `machine`
-//! the archive and the programs as this machine runs them.
+//! it, `damage` what spoils a file, `kinds` one kind of a file, `tables` tables made for the judge, `raw` the answers with all
+//! their fields, and `machine` the archive and the programs as this machine runs them.
 
 use std::env;
 
@@ -8,6 +8,7 @@ use reference::{samples::Most, Refusal};
 
 pub mod compare;
 mod damage;
+pub mod kinds;
 mod lent;
 pub mod machine;
 pub mod raw;

@@ -1,6 +1,7 @@
 //! What the tests run on this machine. The kit writes code for x86-64 alone, so the tests link and run that code as it is on
 //! x86-64. On any other processor it runs under the kit's emulator, by what stands in tests/emulated.
 
+use std::env;
 use std::path::{Path, PathBuf};
 use std::process::Command;
 
@@ -12,9 +13,18 @@ pub fn top() -> PathBuf {
 /// The archive with the calls of include/teaselram.h that this machine's programs link: the proved library itself, or the
 /// calls that send each request to it under the emulator. `rust/teaselram/build.rs` links the same.
 pub fn archive() -> PathBuf {
-    let native = cfg!(target_arch = "x86_64");
-    let folder = if native { "staticlib" } else { "emulated" };
+    let folder = if is_emulated() {
+        "emulated"
+    } else {
+        "staticlib"
+    };
     top().join("target").join(folder).join("libteaselram.a")
+}
+
+/// Whether the tests call the proved library through tests/emulated: on every processor that cannot run its code, and on
+/// x86-64 where TEASELRAM_EMULATED is set.
+pub fn is_emulated() -> bool {
+    !cfg!(target_arch = "x86_64") || env::var_os("TEASELRAM_EMULATED").is_some()
 }
 
 /// A command that runs the proved program `name` of target/bin. Arguments that are added to it are the program's, and so are

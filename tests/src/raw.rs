@@ -23,9 +23,24 @@ pub struct Head {
     pub states: u16,
 }
 
+/// `struct teaselram_kind`.
+#[repr(C)]
+#[derive(Debug, Default, Clone, Copy, PartialEq, Eq)]
+pub struct Kind {
+    pub number: u8,
+    pub size: u8,
+    pub alignment: u8,
+    pub flags: u8,
+    pub starts: u8,
+    pub zero: u8,
+    pub first_start: u16,
+}
+
 extern "C" {
     fn teaselram_read_sheet(sheet: *const u8, sheet_len: usize) -> Head;
     fn teaselram_read_table(table: *const u8, table_len: usize) -> Head;
+    fn teaselram_sheet_kind(sheet: *const u8, sheet_len: usize, kind: u64) -> Kind;
+    fn teaselram_table_kind(table: *const u8, table_len: usize, kind: u64) -> Kind;
     fn teaselram_row(table: *const u8, table_len: usize, state: u64) -> Answer;
     fn teaselram_place_by_rules(
         sheet: *const u8,
@@ -80,6 +95,14 @@ pub fn read_sheet(sheet: &[u8]) -> Head {
 
 pub fn read_table(table: &[u8]) -> Head {
     read(teaselram_read_table, table)
+}
+
+pub fn sheet_kind(sheet: &[u8], kind: u64) -> Kind {
+    unsafe { teaselram_sheet_kind(sheet.as_ptr(), sheet.len(), kind) }
+}
+
+pub fn table_kind(table: &[u8], kind: u64) -> Kind {
+    unsafe { teaselram_table_kind(table.as_ptr(), table.len(), kind) }
 }
 
 pub fn row(table: &[u8], state: u64) -> Answer {

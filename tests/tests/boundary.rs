@@ -3,9 +3,9 @@
 use std::path::Path;
 use std::process::Command;
 
-use comparison::machine::{archive, top};
-use comparison::raw::{self, Answer, Head};
-use comparison::{damage, rounds, Numbers, MOST};
+use comparison::machine::{archive, is_emulated, top};
+use comparison::raw::{self, Answer, Head, Kind};
+use comparison::{damage, kinds, rounds, Numbers, MOST};
 use reference::samples::{self, Xorshift};
 use reference::{Refusal, Verdict};
 
@@ -16,11 +16,12 @@ struct Question {
     table: Vec<u8>,
     kinds: Vec<u8>,
     room: usize,
+    kind: u64,
     state: u64,
 }
 
 impl Question {
-    /// A third of the files are as they should be; list, room and state are mostly right too.
+    /// A third of the files are as they should be; list, room, kind and state are mostly right too.
     fn seeded(random: &mut Xorshift) -> Self {
         let mut sheet = samples::sheet(random, MOST).bytes();
         let mut table = samples::table(random, MOST).bytes();
@@ -35,6 +36,7 @@ impl Question {
         }
         Question {
             room: [2406, 2406, 400, 40, 5][random.below(5)],
+            kind: [0, 1, 2, 3, 7, 8, 255, 256, u64::MAX][random.below(9)],
             state: random.below(21) as u64,
             sheet,
             table,
@@ -45,6 +47,14 @@ impl Question {
     /// What the library answers: reading a sheet, reading a table.
     fn heads(&self) -> [Head; 2] {
         [raw::read_sheet(&self.sheet), raw::read_table(&self.table)]
+    }
+
+    /// What the library answers: a kind of a sheet, a kind of a table.
+    fn kinds(&self) -> [Kind; 2] {
+        [
+            raw::sheet_kind(&self.sheet, self.kind),
+            raw::table_kind(&self.table, self.kind),
+        ]
     }
 
     /// What the library answers: row, placing by the rules and by a table, building, judging.
@@ -63,6 +73,23 @@ impl Question {
         let sheet = reference::read_sheet(&self.sheet).map(|sheet| (sheet.head, 0));
         let table = reference::read_table(&self.table).map(|table| (table.head, table.rows.len()));
         [sheet, table].map(head)
+    }
+
+    fn expected_kinds(&self) -> [Kind; 2] {
+        let sheet = kinds::of_sheet(&self.sheet, self.kind).map(|(kind, first_start)| Kind {
+            size: kind.size,
+            alignment: kind.alignment,
+            flags: kind.flags,
+            starts: kind.starts.len() as u8,
+            first_start: first_start as u16,
+            ..Kind::default()
+        });
+        let table = kinds::of_table(&self.table, self.kind).map(|kind| Kind {
+            size: kind.size,
+            alignment: kind.alignment,
+            ..Kind::default()
+        });
+        [sheet, table].map(|kind| kind.unwrap_or_else(no_kind))
     }
 
     fn expected_answers(&self) -> [Answer; 5] {
@@ -102,6 +129,13 @@ fn head(read: Result<(reference::Head, usize), Refusal>) -> Head {
     }
 }
 
+fn no_kind(refusal: Refusal) -> Kind {
+    Kind {
+        number: refusal.number,
+        ..Kind::default()
+    }
+}
+
 /// The fields of an answer that says a count and a value.
 fn counted(answer: Result<(usize, u32), Refusal>) -> Answer {
     let said = |(count, value)| Answer {
@@ -136,21 +170,26 @@ fn refused(refusal: Refusal) -> Answer {
 #[test]
 fn every_field_of_every_answer_and_every_number_of_every_call() {
     let mut random = Xorshift::new(41);
-    let mut numbers = [(); 7].map(|_| Numbers::default());
+    let mut numbers = [(); 9].map(|_| Numbers::default());
     for _ in 0..rounds(15_000) {
         let question = Question::seeded(&mut random);
-        let (heads, answers) = (question.heads(), question.answers());
+        let (heads, kinds, answers) = (question.heads(), question.kinds(), question.answers());
         assert_eq!(heads, question.expected_heads(), "{question:02X?}");
+        assert_eq!(kinds, question.expected_kinds(), "{question:02X?}");
         assert_eq!(answers, question.expected_answers(), "{question:02X?}");
         let given = heads.map(|head| head.number).into_iter();
+        let given = given.chain(kinds.map(|kind| kind.number));
         let given = given.chain(answers.map(|answer| answer.number));
         given
             .zip(&mut numbers)
             .for_each(|(number, numbers)| numbers.count(number));
     }
-    let [read_sheet, read_table, row, by_rules, by_table, build, judge] = numbers;
+    let [read_sheet, read_table, sheet_kind, table_kind, row, by_rules, by_table, build, judge] =
+        numbers;
     read_sheet.assert_reached(&[0, 1, 2, 3, 4, 5, 6], 20);
     read_table.assert_reached(&[0, 1, 2, 3, 4, 5, 6, 7], 20);
+    sheet_kind.assert_reached(&[0, 1, 2, 3, 4, 5, 6, 9], 20);
+    table_kind.assert_reached(&[0, 1, 2, 3, 4, 5, 6, 7, 9], 20);
     row.assert_reached(&[0, 1, 2, 3, 4, 5, 6, 7, 13], 20);
     by_rules.assert_reached(&[0, 1, 2, 3, 4, 5, 6, 8, 9, 10, 12], 20);
     by_table.assert_reached(&[0, 1, 2, 3, 4, 5, 6, 7, 8, 9, 10, 12], 20);
@@ -193,10 +232,60 @@ fn the_header_is_clean_c_and_c_plus_plus() {
     }
 }
 
+/// What the header says of the host's functions. Through tests/emulated the tests call another program, not the archive.
+#[test]
+fn the_library_needs_memcpy_and_memset_alone() {
+    if is_emulated() {
+        return;
+    }
+    let archive = archive();
+    let archive = archive.to_str().expect("a path of text");
+    let needed = run("nm", &["--undefined-only", archive]);
+    let needed: Vec<_> = needed.split_whitespace().skip(1).collect();
+    assert_eq!(needed, ["U", "memcpy", "U", "memset"]);
+}
+
+/// What the header says of the stack, as tests/c/stack.c measures it. Through tests/emulated the tests call another program.
+#[test]
+fn no_call_takes_more_stack_than_the_header_says() {
+    if is_emulated() {
+        return;
+    }
+    let folder = Path::new(env!("CARGO_TARGET_TMPDIR"));
+    let paths = [folder.join("stack"), folder.join("sheet"), archive()];
+    let [program, file, archive] = [0, 1, 2].map(|at| paths[at].to_str().expect("a path of text"));
+    let arguments = ["-std=c99", "-Iinclude", "-Wl,-z,now", "-o", program];
+    let linked = ["tests/c/stack.c", archive];
+    run("gcc", &[&WARNINGS[..], &arguments, &linked].concat());
+    let sheets = [
+        samples::S.to_vec(),
+        samples::s_with_double(|double| double.flags = 0),
+        samples::private_registers(7).bytes(),
+        samples::private_registers(8).bytes(),
+        vec![0, 1, 2],
+    ];
+    for sheet in sheets {
+        std::fs::write(file, sheet).expect("a file for the sheet");
+        println!("{}", run(program, &[file]));
+    }
+}
+
+/// A copy of the repository tests its own library, so what it links names no folder of the checkout that made it.
+#[test]
+fn the_archive_names_no_checkout() {
+    let bytes = std::fs::read(archive()).expect("the archive is there");
+    let top = top().canonicalize().expect("the repository is there");
+    let top = top.to_str().expect("a path of text").as_bytes();
+    assert!(bytes.windows(top.len()).all(|part| part != top));
+}
+
 const EXAMPLE: &str = "examples/c/build_judge_place.c";
 
 const EXAMPLE_PRINTS: &str = "\
 sheet: 4 registers of 4 bytes, stack modulus 8, 3 kinds
+char: size 1, alignment 1, stack, starts 0 1 2 3
+int: size 4, alignment 4, stack, starts 0 1 2 3
+double: size 8, alignment 8, stack, starts 0 1 2
 table: 12 states, 158 bytes
 verdict: clean
 char: registers 0 to 0
@@ -205,6 +294,8 @@ int: registers 2 to 2
 double: stack bytes 0 to 7
 int: registers 3 to 3
 stack: 8 bytes
+the empty list
+stack: 0 bytes
 the same with no stack for double
 table: 12 states, 158 bytes
 verdict: fault 1 for char double double

@@ -1,6 +1,6 @@
-//! Reading sheets and tables, and asking for rows: the library beside the second program.
+//! Reading sheets and tables, and asking for kinds and rows: the library beside the second program.
 
-use comparison::{compare, damage, refused, rounds, Numbers, MOST};
+use comparison::{compare, damage, kinds, refused, rounds, Numbers, MOST};
 use reference::samples::{self, with_length, Xorshift, S};
 use reference::Refusal;
 
@@ -134,6 +134,101 @@ fn sheets_as_tables_and_tables_as_sheets() {
         read_both(&samples::sheet(&mut random, MOST).bytes());
         read_both(&samples::table(&mut random, MOST).bytes());
     }
+}
+
+#[test]
+fn kinds_of_s() {
+    let kinds = [(1, 1, 11..15), (4, 4, 19..23), (8, 8, 27..30)];
+    for (number, (size, alignment, starts)) in (0..).zip(kinds) {
+        let kind = teaselram::sheet_kind(&S, number).expect("S has three kinds");
+        let expected = teaselram::SheetKind {
+            size,
+            alignment,
+            flags: 1,
+            starts: &S[starts],
+        };
+        assert_eq!(kind, expected);
+        assert!(kind.may_use_stack() && !kind.is_closing());
+        assert_eq!(
+            teaselram::table_kind(&table_of_s(), number),
+            Ok(teaselram::TableKind { size, alignment })
+        );
+    }
+}
+
+#[test]
+fn flags_of_a_kind() {
+    for flags in 0..4 {
+        let sheet = samples::s_with_double(|double| double.flags = flags);
+        let kind = teaselram::sheet_kind(&sheet, 2).expect("S has three kinds");
+        assert_eq!(kind.flags, flags);
+        let meant = (kind.may_use_stack(), kind.is_closing());
+        assert_eq!(meant, (flags % 2 == 1, flags >= 2));
+    }
+}
+
+/// Without starts the last kind's first one would stand behind the sheet.
+#[test]
+fn a_kind_without_starts() {
+    let sheet = samples::s_with_double(|double| double.starts.clear());
+    let double = compare::sheet_kind(&sheet, 2).expect("S has three kinds");
+    assert_eq!(double.starts, []);
+}
+
+#[test]
+fn kinds_that_there_are_not() {
+    let table = table_of_s();
+    for kind in kinds::asked(3).filter(|&kind| kind >= 3) {
+        assert_eq!(compare::sheet_kind(&S, kind), Err(refused(9, 0, 0)));
+        assert_eq!(compare::table_kind(&table, kind), Err(refused(9, 0, 0)));
+    }
+}
+
+/// A file that is not read has no kinds, whichever is asked for: the reader's number comes before 9.
+#[test]
+fn the_reader_refuses_before_9() {
+    for kind in kinds::asked(3) {
+        for (bytes, number) in [(&[][..], 1), (&S[..29], 1), (&[0, 0], 3), (&[0, 1, 2], 2)] {
+            let refusal = refused(number, 0, 0);
+            assert_eq!(compare::sheet_kind(bytes, kind), Err(refusal));
+            assert_eq!(compare::table_kind(bytes, kind), Err(refusal));
+        }
+    }
+}
+
+#[test]
+fn every_kind_of_seeded_files() {
+    let mut random = Xorshift::new(5);
+    for _ in 0..rounds(2000) {
+        let sheet = samples::sheet(&mut random, MOST);
+        for kind in kinds::asked(sheet.head.kinds) {
+            let answer = compare::sheet_kind(&sheet.bytes(), kind).ok();
+            assert_eq!(answer.as_ref(), sheet.kinds.get(kind as usize));
+        }
+        let table = samples::table(&mut random, MOST);
+        for kind in kinds::asked(table.head.kinds) {
+            let answer = compare::table_kind(&table.bytes(), kind).ok();
+            assert_eq!(answer.as_ref(), table.kinds.get(kind as usize));
+        }
+    }
+}
+
+#[test]
+fn kinds_of_damaged_files() {
+    let mut random = Xorshift::new(6);
+    let (mut sheets, mut tables) = (Numbers::default(), Numbers::default());
+    for _ in 0..rounds(10_000) {
+        let sheet = samples::sheet(&mut random, MOST);
+        let kind = random.below(usize::from(sheet.head.kinds) + 2) as u64;
+        let damaged = damage(&mut random, &sheet.bytes());
+        sheets.note(&compare::sheet_kind(&damaged, kind));
+        let table = samples::table(&mut random, MOST);
+        let kind = random.below(usize::from(table.head.kinds) + 2) as u64;
+        let damaged = damage(&mut random, &table.bytes());
+        tables.note(&compare::table_kind(&damaged, kind));
+    }
+    sheets.assert_reached(&[0, 1, 2, 3, 4, 5, 6, 9], 50);
+    tables.assert_reached(&[0, 1, 2, 3, 4, 5, 6, 7, 9], 50);
 }
 
 #[test]

@@ -1,10 +1,11 @@
-//! What the calls answer, and how the library's two structs become it.
+//! What the calls answer, and how the library's three structs become it.
 
 use std::{error, fmt};
 
 use crate::ffi;
 
-/// A refusal: document 01's number; the position for 9 and 10, the fault for 10; 0 where 01 names none.
+/// A refusal: document 01's number; for 9 and 10 the position in the list, for 10 the fault; 0 where there is none, as there
+/// is no list where a kind is asked for.
 #[derive(Debug, Clone, Copy, PartialEq, Eq)]
 pub struct Refusal {
     pub number: u8,
@@ -20,6 +21,22 @@ pub struct Head {
     pub modulus: u8,
     pub kinds: u8,
     pub states: u16,
+}
+
+/// A kind of a sheet; `starts` are the sheet's own bytes.
+#[derive(Debug, Clone, Copy, PartialEq, Eq)]
+pub struct SheetKind<'a> {
+    pub size: u8,
+    pub alignment: u8,
+    pub flags: u8,
+    pub starts: &'a [u8],
+}
+
+/// A kind of a table.
+#[derive(Debug, Clone, Copy, PartialEq, Eq)]
+pub struct TableKind {
+    pub size: u8,
+    pub alignment: u8,
 }
 
 /// How many arguments were placed, and the final p.
@@ -43,6 +60,18 @@ pub enum Verdict {
     Fault { fault: u8, length: usize },
 }
 
+impl SheetKind<'_> {
+    /// Whether the kind may use the stack: flag 1.
+    pub fn may_use_stack(&self) -> bool {
+        self.flags & 1 != 0
+    }
+
+    /// Whether the kind is closing: flag 2.
+    pub fn is_closing(&self) -> bool {
+        self.flags & 2 != 0
+    }
+}
+
 impl fmt::Display for Refusal {
     fn fmt(&self, f: &mut fmt::Formatter<'_>) -> fmt::Result {
         write!(f, "refused {}", self.number)?;
@@ -55,6 +84,17 @@ impl fmt::Display for Refusal {
 }
 
 impl error::Error for Refusal {}
+
+impl Refusal {
+    /// A refusal that carries its number alone.
+    fn numbered(number: u8) -> Self {
+        Refusal {
+            number,
+            position: 0,
+            fault: 0,
+        }
+    }
+}
 
 impl ffi::Answer {
     /// The answer where its number is 0, its refusal otherwise.
@@ -104,11 +144,34 @@ impl ffi::HeadAnswer {
                 kinds: self.kinds,
                 states: self.states,
             }),
-            number => Err(Refusal {
-                number,
-                position: 0,
-                fault: 0,
-            }),
+            number => Err(Refusal::numbered(number)),
         }
+    }
+}
+
+impl ffi::KindAnswer {
+    /// The answer where its number is 0, its refusal otherwise.
+    fn accepted(self) -> Result<Self, Refusal> {
+        match self.number {
+            0 => Ok(self),
+            number => Err(Refusal::numbered(number)),
+        }
+    }
+
+    pub(crate) fn of_sheet(self, sheet: &[u8]) -> Result<SheetKind<'_>, Refusal> {
+        let first = usize::from(self.first_start);
+        self.accepted().map(|answer| SheetKind {
+            size: answer.size,
+            alignment: answer.alignment,
+            flags: answer.flags,
+            starts: &sheet[first..first + usize::from(answer.starts)],
+        })
+    }
+
+    pub(crate) fn of_table(self) -> Result<TableKind, Refusal> {
+        self.accepted().map(|answer| TableKind {
+            size: answer.size,
+            alignment: answer.alignment,
+        })
     }
 }

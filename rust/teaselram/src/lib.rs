@@ -28,7 +28,7 @@
 mod answers;
 mod ffi;
 
-pub use answers::{Built, Head, Placed, Refusal, Verdict};
+pub use answers::{Built, Head, Placed, Refusal, SheetKind, TableKind, Verdict};
 
 /// The most arguments that a call places.
 pub const MOST_ARGUMENTS: usize = 400;
@@ -67,6 +67,34 @@ pub fn read_sheet(sheet: &[u8]) -> Result<Head, Refusal> {
 pub fn read_table(table: &[u8]) -> Result<Head, Refusal> {
     // SAFETY: the pointer and the length are a slice's; the library only reads it and keeps nothing.
     unsafe { ffi::teaselram_read_table(table.as_ptr(), table.len()) }.head()
+}
+
+/// A kind of a sheet, numbered from 0; its starts are a part of `sheet`, no copy. Refuses as reading does, then with 9 where
+/// the sheet has no such kind.
+///
+/// ```
+/// let sheet = [0, 11, 1, 2, 4, 4, 1, 4, 4, 1, 2, 0, 1];
+/// let kind = teaselram::sheet_kind(&sheet, 0).unwrap();
+/// assert_eq!((kind.size, kind.alignment, kind.starts), (4, 4, &[0, 1][..]));
+/// assert!(kind.may_use_stack() && !kind.is_closing());
+/// assert_eq!(teaselram::sheet_kind(&sheet, 1).unwrap_err().number, 9);
+/// ```
+pub fn sheet_kind(sheet: &[u8], kind: u64) -> Result<SheetKind<'_>, Refusal> {
+    // SAFETY: the pointer and the length are a slice's; the library only reads it and keeps nothing.
+    unsafe { ffi::teaselram_sheet_kind(sheet.as_ptr(), sheet.len(), kind) }.of_sheet(sheet)
+}
+
+/// A kind of a table, numbered from 0. Refuses as reading does, then with 9 where the table has no such kind.
+///
+/// ```
+/// let table = [0, 12, 1, 1, 4, 4, 1, 4, 4, 1, 2, 0, 4, 0];
+/// let kind = teaselram::table_kind(&table, 0).unwrap();
+/// assert_eq!((kind.size, kind.alignment), (4, 4));
+/// assert_eq!(teaselram::table_kind(&table, 1).unwrap_err().number, 9);
+/// ```
+pub fn table_kind(table: &[u8], kind: u64) -> Result<TableKind, Refusal> {
+    // SAFETY: the pointer and the length are a slice's; the library only reads it and keeps nothing.
+    unsafe { ffi::teaselram_table_kind(table.as_ptr(), table.len(), kind) }.of_table()
 }
 
 /// The bytes of one state's row, four for each kind: a part of `table`, no copy. Refuses as reading does, then with 13.
