@@ -2,8 +2,8 @@
  * Teaselram: the rule sheet of a calling convention, its calling table, and the verdict on a table.
  *
  * A sheet says for each kind of argument how it is placed in registers or on the stack. A table is a sheet worked out: one
- * row for each state of the walk, one transition for each kind. What the bytes and the answers mean is document 01; every
- * call is proved to do exactly that, on any input.
+ * row for each state of the walk, one transition for each kind. What the bytes and the answers mean is told in
+ * docs/FORMAT.md; every call is proved to do exactly that, on any input.
  *
  * Every call:
  * - takes each slice as a pointer and a length. No pointer may be NULL, also where its length is 0, and `out` may not

@@ -106,7 +106,7 @@ fn states_no(head: Head, states: u16, t: &[u8]) -> u8
 }
 
 // The transition whose four bytes, which are there, begin at byte `at`.
-pub fn transition_at(t: &[u8], at: usize) -> Transition
+fn transition_at(t: &[u8], at: usize) -> Transition
     requires { ⌜ at + 4 ≤ length (now t) ⌝ }
     ensures { λ r. ⌜ r ≡ transitionOf (now (t .entry)) at ⌝ }
 {

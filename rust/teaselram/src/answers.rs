@@ -4,7 +4,7 @@ use std::{error, fmt};
 
 use crate::ffi;
 
-/// A refusal: document 01's number; for 9 and 10 the position in the list, for 10 the fault; 0 where there is none, as there
+/// A refusal: its number, of docs/FORMAT.md; for 9 and 10 the position in the list, for 10 the fault; 0 where there is none, as there
 /// is no list where a kind is asked for.
 #[derive(Debug, Clone, Copy, PartialEq, Eq)]
 pub struct Refusal {

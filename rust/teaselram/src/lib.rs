@@ -1,4 +1,4 @@
-//! Safe Rust over the proved static library. Each call takes slices and answers a `Result`; what it means is document 01.
+//! Safe Rust over the proved static library. Each call takes slices and answers a `Result`; what it means is told in docs/FORMAT.md.
 //! A refusal leaves `out` as it was, and a success leaves the bytes behind what it writes.
 //!
 //! ```
