@@ -1,28 +1,31 @@
 -- The builder's answer and the lent memory: 11, 12 or the table, behind the number that reading the sheet gave.
 use Prim.Native.Nat.{ℕ, zero, suc, _≤_, _<_}
+use mathlib.Core.Logic.{inl, inr}
 use mathlib.Core.Path.{_≡_, refl, sym, _∙_}
-use mathlib.Core.Bool.{true, false}
+use mathlib.Core.Bool.{false, not}
 use mathlib.Core.List.{List}
 use native.Mathlib.Nat.{zero-add}
 use native.Mathlib.Omega.{arith}
+use lib.Dec.{leb}
 use lib.ListN.{length}
-use borrow.Author.Tests.{le-leb, lt-leb}
+use borrow.Author.Tests.{le-leb, lt-leb, leb-true}
 use Rattle.convention.specs.declared.Sheet.{Sheet}
 use Rattle.convention.specs.declared.Reading.{Reading}
 use Rattle.convention.specs.declared.SheetAnswer.{SheetAnswer}
 use Rattle.convention.specs.declared.Building.{Building}
 use Rattle.convention.specs.declared.Building.the-variants.{Built}
-use Rattle.convention.specs.Numbers.{stateLimit, reading}
+use Rattle.convention.specs.Numbers.{stateLimit, orElse, unless, reading}
 use Rattle.convention.specs.Bytes.{written}
 use Rattle.convention.specs.Sheets.{readSheet}
 use Rattle.convention.specs.Tables.{rowAt}
 use Rattle.convention.specs.Built.{builtStates, builtTable, buildNo, buildAnswer, build, buildWrites, buildMemory}
 use Rattle.convention.specs.Promised.{SheetRead}
-use Rattle.convention.proofs.Numbers.{or-here}
+use Rattle.convention.proofs.Runs.{either}
+use Rattle.convention.proofs.Numbers.{or-zero, or-here, unless-zero}
 use Rattle.convention.proofs.Sheets.{sheet-right, sheet-is, sheet-refused, sheet-wrong}
-use Rattle.building.specs.declared.keys.Met.{Met}
+use Rattle.building.specs.declared.memory.Met.{Met}
 use Rattle.building.specs.Holding.{Holds}
-use Rattle.building.specs.Writing.{TableAsks, BuildingIs}
+use Rattle.building.specs.Writing.{TableAsks, tableNumber, BuildingIs}
 use Rattle.building.proofs.Readable.{built-length}
 
 -- A number that is not 0 refuses, and leaves the memory.
@@ -34,37 +37,61 @@ number-leaves : (number : ℕ) (table out : List ℕ) → 0 < number → buildWr
 number-leaves zero table out h = absurd (omega arith)
 number-leaves (suc number) table out h = refl
 
--- A sheet that was read, whose states were explored.
-module _ (sheet : Sheet) (states : List ℕ) (met : Met) (before : List ℕ) (holds : Holds sheet states met (builtStates stateLimit sheet)) where
-  -- 11.
-  pub too-many : met .over ≡ true → BuildingIs sheet before (Building.Refused 11) before
-  too-many o = record { answers = rw (lt-leb _ _ (holds .more o)); memory = rw (lt-leb _ _ (holds .more o)) }
+-- What a number answers, told apart as the code does.
+pub answer-refused : (number n len : ℕ) → (number ≡ 0 → ⊥) → Building.Refused number ≡ buildAnswer number n len
+answer-refused number n len nz = sym (number-answers number n len (omega (arith, nz)))
 
-  module _ (o : met .over ≡ false) (len : ℕ) (e : len ≡ rowAt (sheet .head .kinds) (met .count)) where
+pub answer-built : (number n len : ℕ) → number ≡ 0 → Built n len ≡ buildAnswer number n len
+answer-built number n len z = rw z
+
+-- A sheet that was read, whose states were explored: the number is that of 'Building: 11, 12'.
+module _ (sheet : Sheet) (states : List ℕ) (met : Met) (before : List ℕ) (len number : ℕ) (answer : Building)
+    (holds : Holds sheet states met (builtStates stateLimit sheet)) (el : len ≡ rowAt (sheet .head .kinds) (met .count))
+    (en : number ≡ orElse (unless (not (met .over)) 11) (unless (leb len (length before)) 12)) (ea : answer ≡ buildAnswer number (met .count) len) where
+  -- Where there are not too many states, the length is the table's.
+  module _ (o : met .over ≡ false) where
     few : length (builtStates stateLimit sheet) ≤ stateLimit
     few = omega (arith, holds .room .few, holds .all o .many)
 
     whole : len ≡ length (builtTable stateLimit sheet)
-    whole = e ∙ rw (holds .all o .many) (sym (built-length sheet (builtStates stateLimit sheet)))
+    whole = el ∙ rw (holds .all o .many) (sym (built-length sheet (builtStates stateLimit sheet)))
 
-    -- 12.
-    pub too-short : length before < len → BuildingIs sheet before (Building.Refused 12) before
-    too-short h =
-        let short : length before < length (builtTable stateLimit sheet) = rw (← whole) h in
-        record { answers = rw (le-leb _ _ few, lt-leb _ _ short); memory = rw (le-leb _ _ few, lt-leb _ _ short) }
+  table-number : number ≡ tableNumber sheet (length before)
+  table-number = elim (either (met .over)) [
+    | inl o ↦ rw (en, o, lt-leb _ _ (holds .more o))
+    | inr o ↦ rw (en, o, le-leb _ _ (few o), ← whole o)
+  ]
 
-    -- The table.
-    module _ (h : len ≤ length before) where
-      pub table-asks : SheetRead sheet → TableAsks sheet states (met .count) before
-      table-asks read = record { kept = record { read = read; room = holds .room; keeps = holds .all o }; there = rw (← e) h }
+  -- It refuses.
+  pub table-refused : (number ≡ 0 → ⊥) → BuildingIs sheet before answer before
+  table-refused nz =
+      let some : 0 < number = omega (arith, nz) in
+      record {
+        answers = ea ∙ number-answers number _ _ some ∙ rw (← table-number) (sym (number-answers number _ _ some));
+        memory = rw (← table-number) (sym (number-leaves number _ before some));
+      }
 
-      pub table-built : (after : List ℕ) → after ≡ written before 0 (builtTable stateLimit sheet) → BuildingIs sheet before (Built (met .count) len) after
-      table-built after ea =
-          let room : length (builtTable stateLimit sheet) ≤ length before = rw (← whole) h in
-          record {
-            answers = rw (le-leb _ _ few, le-leb _ _ room, holds .all o .many, whole);
-            memory = rw (le-leb _ _ few, le-leb _ _ room) (ea ∙ rw zero-add);
-          }
+  -- It is 0.
+  module _ (z : number ≡ 0) where
+    passed : (unless (not (met .over)) 11 ≡ 0) × (unless (leb len (length before)) 12 ≡ 0)
+    passed = or-zero _ _ (sym en ∙ z)
+
+    all-met : met .over ≡ false
+    all-met = elim (either (met .over)) [
+      | inl o ↦ absurd (omega (arith, rw o at (passed .0)))
+      | inr o ↦ o
+    ]
+
+    pub table-asks : SheetRead sheet → TableAsks sheet states (met .count) before
+    table-asks read = record {
+      kept = record { read = read; room = holds .room; keeps = holds .all all-met };
+      there = rw (← el) (leb-true _ _ (unless-zero _ 12 (omega arith) (passed .1)));
+    }
+
+    pub table-built : (after : List ℕ) → after ≡ written before 0 (builtTable stateLimit sheet) → BuildingIs sheet before answer after
+    table-built after e =
+        let none : tableNumber sheet (length before) ≡ 0 = sym table-number ∙ z in
+        record { answers = ea ∙ rw (none, z, holds .all all-met .many, whole all-met); memory = rw none (e ∙ rw zero-add) }
 
 -- The reader's answer.
 module _ (s : List ℕ) (a : SheetAnswer) (ea : a ≡ readSheet s) where

@@ -1,4 +1,4 @@
--- Laws of keys: a state is had back from its key; and one turn of each loop over flags and over keys, on plain values.
+-- Laws of keys: a state is had back from its key; and one turn of each loop over flags, on plain values.
 use Prim.Native.Nat.{ℕ, suc, _+_, _-_, _*_, _/_, _%_, _≤_, _<_, _^_}
 use mathlib.Core.Path.{_≡_, refl, ap, _∙_}
 use mathlib.Core.Bool.{Bool, true, false}
@@ -11,11 +11,8 @@ use mir.Val.{Fits, boolByte}
 use lib.Dec.{eqb}
 use lib.ListN.{length, getD, drop, set, length-drop, length-set, replicate, drop-of-length-le}
 use lib.Seq.{drop-cons, take-all, take-suc-set, append-snoc}
-use borrow.Author.Count.{below-more}
 use Rattle.convention.specs.declared.Allocation.{Allocation}
-use Rattle.building.specs.Reached.{firstAllocation}
 use Rattle.building.specs.Keys.{setNumber, setOf, KeyIs, NumberFrom, SetUpTo}
-use Rattle.building.specs.Holding.{Passed, Finds}
 
 -- The number of a set is below the number of sets.
 number-most : (fs : List Bool) → setNumber fs < 2 ^ length fs
@@ -51,11 +48,6 @@ key-is a number long byte small e =
     let rest : a .remainder % 256 ≡ a .remainder = omega arith in
     let back : setOf 16 number ≡ a .unavailable = rw (e, ← long) (set-back (a .unavailable)) in
     record { number = rw e; state = rw (flags, behind, rest, back) }
-
--- 'The empty set with 0' has the key 0.
-pub first-key : KeyIs 0 firstAllocation
-unfolding setNumber setOf
-first-key = record { number = refl; state = refl }
 
 -- One more register doubles a number, and it fits.
 pub number-fits : (number : ℕ) (f : Bool) → number < 65536 → Fits w32 (2 * number + boolByte f)
@@ -106,19 +98,3 @@ module _ (number : ℕ) where
     set-end h =
         let none : 16 - i ≡ 0 = omega arith in
         rw (none, append-nil, take-all i flags (omega (arith, upTo .long))) at (upTo .is)
-
--- Finding a key, before key i of those kept.
-module _ (states : List ℕ) (count key : ℕ) where
-  pub find-begin : Passed states count key 0
-  find-begin = record { within = omega arith; others = λ j h. absurd (omega arith) }
-
-  module _ (i : ℕ) (passed : Passed states count key i) where
-    -- It is the one; it is another; none is left.
-    pub find-here : getD states i 0 ≡ key → Finds states count key i
-    find-here e = record { passed = passed; there = λ h. e }
-
-    pub find-on : i < count → (getD states i 0 ≡ key → ⊥) → Passed states count key (i + 1)
-    find-on h other = record { within = omega arith; others = below-more (λ j. getD states j 0 ≡ key → ⊥) i (passed .others) other }
-
-    pub find-end : count ≤ i → Finds states count key i
-    find-end h = record { passed = passed; there = λ o. absurd (omega arith) }

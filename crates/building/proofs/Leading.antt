@@ -19,7 +19,6 @@ use Rattle.convention.specs.Built.{allocation, fromAllocation}
 use Rattle.convention.specs.Promised.{HeadRead, SheetRead}
 use Rattle.convention.proofs.Offsets.{modulus-pos}
 use Rattle.placing.specs.Asked.{StepAsks, StepIs}
-use Rattle.building.specs.Keys.{KeyIs}
 use Rattle.building.specs.Holding.{LeadAsks, LeadIs}
 
 -- A remainder by a byte is a byte.
@@ -39,7 +38,7 @@ pub lead-asks : (sheet : Sheet) (k : ℕ) → SheetRead sheet → k < sheet .hea
 lead-asks sheet k read h = record { head = read .head; kind = read .kind k h }
 
 -- Where a head's kind leads, of kind k of a sheet.
-pub lead-of : (sheet : Sheet) (k : ℕ) (h : Head) (kind : SheetKind) (a : Allocation) (place : Placement) (next : ℕ) → h ≡ sheet .head
+pub lead-of : (sheet : Sheet) (k : ℕ) (h : Head) (kind : SheetKind) (a : Allocation) (place : Placement) (next : Allocation) → h ≡ sheet .head
     → kind ≡ sheetKind sheet k → LeadIs h kind a place next → LeadIs (sheet .head) (sheetKind sheet k) a place next
 lead-of sheet k h kind a place next eh ek lead = rw (eh, ek) at lead
 
@@ -48,7 +47,7 @@ module _ (h : Head) (kind : SheetKind) (a : Allocation) where
   pub step-asks : LeadAsks h kind → a .remainder < 256 → StepAsks h kind (fromAllocation a)
   step-asks asks b = record { head = asks .head; kind = asks .kind; room = omega arith }
 
-  -- The key is that of the allocation state behind the step.
-  pub led : (place : Placement) (behind : ByRules) (next : Allocation) (key : ℕ) → StepIs h kind (fromAllocation a) place behind
-      → next ≡ allocation (h .modulus) behind → KeyIs key next → LeadIs h kind a place key
-  led place behind next key step e is = record { placed = step .placed; behind = rw (← step .reached, ← e) is }
+  -- Behind the step the rules stand in the next state.
+  pub led : (place : Placement) (behind : ByRules) (next : Allocation) → StepIs h kind (fromAllocation a) place behind
+      → next ≡ allocation (h .modulus) behind → LeadIs h kind a place next
+  led place behind next step e = record { placed = step .placed; behind = rw (← step .reached) e }

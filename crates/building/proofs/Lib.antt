@@ -11,6 +11,7 @@ pub mod Reached
 pub mod Unreached
 pub mod Keyed
 pub mod Leading
+pub mod Keeping
 pub mod Meeting
 pub mod Writing
 pub mod Answering

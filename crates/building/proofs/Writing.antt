@@ -1,18 +1,19 @@
 -- Laws of writing the table: stores one behind the other, blocks one behind the other, and the parts put together.
 use Prim.Native.Nat.{ℕ, _+_, _-_, _*_, _/_, _%_, _≤_, _<_, _^_, zero-le}
-use mathlib.Core.Path.{_≡_, refl, sym, _∙_}
+use mathlib.Core.Path.{_≡_, refl, sym, ap, _∙_}
 use mathlib.Core.List.{List, [], _∷_, _++_}
 use native.Mathlib.Numerals.{add-one, add-two, add-three}
 use native.Mathlib.Nat.{mul-le-mul, mul-le-mul-left}
 use native.Mathlib.Omega.{arith}
 use mir.Syntax.{w8, w64}
 use mir.Val.{Fits}
-use lib.ListN.{length, getD, set, length-append, length-set}
+use lib.ListN.{length, set, length-append, length-set}
 use lib.Seq.{append-snoc}
 use Rattle.convention.specs.declared.Head.{Head}
 use Rattle.convention.specs.declared.SheetKind.{SheetKind}
 use Rattle.convention.specs.declared.Sheet.{Sheet}
 use Rattle.convention.specs.declared.Placement.{Placement}
+use Rattle.convention.specs.declared.Placement.the-variants.{Registers, Stack, Nowhere}
 use Rattle.convention.specs.declared.Allocation.{Allocation}
 use Rattle.convention.specs.Bytes.{written, blocks}
 use Rattle.convention.specs.Numbers.{stateLimit}
@@ -23,12 +24,10 @@ use Rattle.convention.specs.Explored.{Entry}
 use Rattle.convention.specs.Rules.{byRules}
 use Rattle.convention.specs.Built.{fromAllocation, allocations, transitionBytes, builtTransition, builtRow, builtKind, builtBody, tableOfStates, builtStates, builtTable}
 use Rattle.convention.proofs.Bytes.{length-written, written-nothing, written-sets, written-one, written-more, length-blocks, written-block}
-use Rattle.building.specs.Keys.{stateOf}
-use Rattle.building.specs.Holding.{Finds, LeadIs}
-use Rattle.building.specs.Writing.{StatesKept, CellAsks, CellIs, TableAsks, RowAsks, KindsAsk, openingBytes, FrontAsks, frontBytes, BlocksLeft}
+use Rattle.building.specs.Holding.{StateAt, Finds, LeadIs}
+use Rattle.building.specs.Writing.{residueOf, placeBytes, StatesKept, CellAsks, CellIs, TableAsks, RowAsks, KindsAsk, openingBytes, FrontAsks, frontBytes, BlocksLeft}
 use Rattle.building.proofs.Readable.{made-length, built-length}
 use Rattle.building.proofs.Leading.{lead-asks, lead-of}
-use Rattle.building.proofs.Meeting.{found-number, kept-node}
 
 -- Where a row starts can be counted.
 cells-most : (m n : ℕ) → Fits w8 m → n ≤ 200 → 4 * m * n ≤ 4 * 255 * 200
@@ -57,20 +56,30 @@ pub stored-opening : (d : List ℕ) (h : Head) (follow : ℕ) → 7 ≤ length d
     ≡ written d 0 (openingBytes h follow)
 stored-opening d h follow room = written-sets d 0 (openingBytes h follow) room
 
--- What is written of a place is what is written of the case that it is known to be.
-pub known-written : (place known : Placement) (modulus next : ℕ) (bytes : List ℕ) (d : List ℕ) (at : ℕ) (now : List ℕ) → place ≡ known
-    → now ≡ written d at bytes → bytes ≡ transitionBytes modulus known next → now ≡ written d at (transitionBytes modulus place next)
-known-written place known modulus next bytes d at now e h b = rw (e, ← b) h
+-- What is answered and what is written of a place is that of the case that it is known to be.
+pub known-residue : (place known : Placement) (modulus r : ℕ) → place ≡ known → r ≡ residueOf modulus known → r ≡ residueOf modulus place
+known-residue place known modulus r e h = rw e h
+
+pub known-written : (place known : Placement) (residue next : ℕ) (bytes : List ℕ) (d : List ℕ) (at : ℕ) (now : List ℕ) → place ≡ known
+    → now ≡ written d at bytes → bytes ≡ placeBytes known residue next → now ≡ written d at (placeBytes place residue next)
+known-written place known residue next bytes d at now e h b = rw (e, ← b) h
+
+-- A place with its residue has the bytes of its transition.
+place-bytes : (modulus : ℕ) (place : Placement) (next : ℕ) → placeBytes place (residueOf modulus place) next ≡ transitionBytes modulus place next
+place-bytes modulus (Registers first count) next = refl
+place-bytes modulus (Stack offset count) next = refl
+place-bytes modulus Nowhere next = refl
 
 -- A transition is that of the place to which the kind leads and of the number that was found.
-pub cell-written : (h : Head) (kind : SheetKind) (a : Allocation) (states : List ℕ) (count : ℕ) (place : Placement) (next number : ℕ)
-    (d : List ℕ) (at : ℕ) (now : List ℕ) → LeadIs h kind a place next → Finds states count next number → now ≡ written d at (transitionBytes (h .modulus) place number)
-    → CellIs h kind a states count d at now
+pub cell-written : (h : Head) (kind : SheetKind) (a : Allocation) (states : List ℕ) (count : ℕ) (place : Placement) (next : Allocation)
+    (residue number : ℕ) (d : List ℕ) (at : ℕ) (now : List ℕ) → LeadIs h kind a place next → Finds states count next number
+    → residue ≡ residueOf (h .modulus) place → now ≡ written d at (placeBytes place residue number) → CellIs h kind a states count d at now
 unfolding builtTransition
-cell-written h kind a states count place next number d at now lead finds e = record {
+cell-written h kind a states count place next residue number d at now lead finds er e = record {
   cell = λ sheet k eh ek keeps.
       let here = lead-of sheet k h kind a place next eh ek lead in
-      rw (← here .placed, ← found-number sheet states count _ next _ number keeps (here .behind) finds, ← eh) e;
+      let bytes = ap (λ x. placeBytes place x number) er ∙ place-bytes (h .modulus) place number in
+      rw (← here .placed, ← here .behind, ← finds .finds sheet _ keeps, ← eh, ← bytes) e;
 }
 
 -- Blocks of w bytes, one behind the other from byte `at` on: none yet, one more, all.
@@ -138,11 +147,10 @@ module _ (sheet : Sheet) where
           (omega (arith, row-there states count i before asks)) (is .cell sheet k refl refl (asks .asks .kept .keeps))
 
     -- All of them.
-    pub row-end : a ≡ stateOf (getD states i 0) → m ≤ k → out ≡ written before (rowAt m i) (builtRow sheet l i)
+    pub row-end : StateAt states i a → m ≤ k → out ≡ written before (rowAt m i) (builtRow sheet l i)
     unfolding builtRow
     row-end from h =
-        let keeps = asks .asks .kept .keeps in
-        let node = kept-node sheet states count l i a keeps (asks .inside) from in
+        let node = from .state sheet count l (asks .asks .kept .keeps) (asks .inside) in
         rw (node, ← e) (blocks-end _ at m before k out left h)
 
   -- The rows.

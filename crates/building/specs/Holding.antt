@@ -1,5 +1,5 @@
--- What the states that the builder keeps, by their keys, have to do with the entries that the exploration meets.
-use Prim.Native.Nat.{ℕ, _+_, _≤_, _<_}
+-- What the states that the builder keeps in memory have to do with the entries that the exploration meets.
+use Prim.Native.Nat.{ℕ, _+_, _-_, _≤_, _<_}
 use mathlib.Core.Path.{_≡_}
 use mathlib.Core.Bool.{true, false}
 use mathlib.Core.List.{List}
@@ -13,51 +13,51 @@ use Rattle.convention.specs.Numbers.{stateLimit}
 use Rattle.convention.specs.Sheets.{sheetKind}
 use Rattle.convention.specs.Promised.{HeadRead, SheetKindRead, SheetRead}
 use Rattle.convention.specs.Rules.{rulesPlace, rulesAfter}
-use Rattle.convention.specs.Explored.{Entry, entry, meet, metFrom, met as metBefore}
+use Rattle.convention.specs.Explored.{Entry, entry, number, meet, metFrom, met as metBefore}
 use Rattle.convention.specs.Built.{allocation, fromAllocation, allocations}
 use Rattle.building.specs.Keys.{KeyIs}
-use Rattle.building.specs.declared.keys.Met.{Met}
+use Rattle.building.specs.declared.memory.Met.{Met}
 
--- So many keys, in the room for as many states as a table may have.
+-- So many states, in the room for as many as a table may have.
 pub record Room (states : List ℕ) (count : ℕ) : Type 0 where
   pub few : count ≤ stateLimit
   pub long : length states ≡ stateLimit
 
--- None of the first i keys is this one.
-pub record Passed (states : List ℕ) (count key i : ℕ) : Type 0 where
-  pub within : i ≤ count
-  pub others : (j : ℕ) → j < i → getD states j 0 ≡ key → ⊥
-
--- The place of the first that is, or their count where none is.
-pub record Finds (states : List ℕ) (count key r : ℕ) : Type 0 where
-  pub passed : Passed states count key r
-  pub there : r < count → getD states r 0 ≡ key
-
--- The keys are those of the entries of l.
+-- The states kept are those of the entries of l. That each is kept by its key is said here alone.
 pub record Keeps (sheet : Sheet) (states : List ℕ) (count : ℕ) (l : List (Entry (allocations sheet))) : Type 0 where
   pub many : count ≡ length l
   pub keys : (i : ℕ) → i < length l → KeyIs (getD states i 0) (entry (allocations sheet) l i .node)
 
--- The keys are those of the entries of l, all of them, or there are more than have room.
+-- The states kept are those of the entries of l, all of them, or there are more than have room.
 pub record Holds (sheet : Sheet) (states : List ℕ) (met : Met) (l : List (Entry (allocations sheet))) : Type 0 where
   pub room : Room states (met .count)
   pub all : met .over ≡ false → Keeps sheet states (met .count) l
   pub more : met .over ≡ true → stateLimit < length l
 
--- A state met, by its key: whatever entries were kept, r keeps them and that state, once more.
-pub record Meets (states : List ℕ) (met : Met) (key : ℕ) (r : Met) (after : List ℕ) : Type 0 where
-  pub meets : (sheet : Sheet) (l : List (Entry (allocations sheet))) (e : Entry (allocations sheet)) → Holds sheet states met l
-      → KeyIs key (e .node) → Holds sheet after r (meet (allocations sheet) l e)
+-- State i: whatever entries are kept, the allocation state of entry i.
+pub record StateAt (states : List ℕ) (i : ℕ) (a : Allocation) : Type 0 where
+  pub state : (sheet : Sheet) (count : ℕ) (l : List (Entry (allocations sheet))) → Keeps sheet states count l → i < count
+      → entry (allocations sheet) l i .node ≡ a
+
+-- An allocation state looked for: whatever entries are kept, its number, which is their count where it is none of them.
+pub record Finds (states : List ℕ) (count : ℕ) (a : Allocation) (r : ℕ) : Type 0 where
+  pub within : r ≤ count
+  pub finds : (sheet : Sheet) (l : List (Entry (allocations sheet))) → Keeps sheet states count l → r ≡ number (allocations sheet) l a
+
+-- An allocation state met: whatever entries were kept, those are kept that the meeting of an entry with this state makes of them.
+pub record Meets (states : List ℕ) (met : Met) (a : Allocation) (r : Met) (after : List ℕ) : Type 0 where
+  pub meets : (sheet : Sheet) (l : List (Entry (allocations sheet))) (e : Entry (allocations sheet)) → e .node ≡ a → Holds sheet states met l
+      → Holds sheet after r (meet (allocations sheet) l e)
 
 -- A head and a kind that were read.
 pub record LeadAsks (h : Head) (k : SheetKind) : Type 0 where
   pub head : HeadRead h
   pub kind : SheetKindRead h k
 
--- Where the kind leads from an allocation state: the place, and the key of the state behind it.
-pub record LeadIs (h : Head) (k : SheetKind) (a : Allocation) (place : Placement) (next : ℕ) : Type 0 where
+-- Where the kind leads from an allocation state: the place, and the state behind it.
+pub record LeadIs (h : Head) (k : SheetKind) (a : Allocation) (place : Placement) (next : Allocation) : Type 0 where
   pub placed : place ≡ rulesPlace (h .width) k (fromAllocation a)
-  pub behind : KeyIs next (allocation (h .modulus) (rulesAfter (h .width) k (fromAllocation a)))
+  pub behind : next ≡ allocation (h .modulus) (rulesAfter (h .width) k (fromAllocation a))
 
 -- One kind gone through at a state.
 pub record PassAsks (h : Head) (k : SheetKind) (states : List ℕ) (count : ℕ) : Type 0 where
@@ -76,10 +76,10 @@ pub record VisitAsks (sheet : Sheet) (states : List ℕ) (met : Met) (i : ℕ) :
   pub whole : met .over ≡ false
   pub inside : i < met .count
 
--- Half way through it, before kind k.
-pub record Visiting (sheet : Sheet) (a : Allocation) (i k : ℕ) (states : List ℕ) (met : Met) : Type 0 where
-  pub within : k ≤ sheet .head .kinds
-  pub holds : Holds sheet states met (metFrom (allocations sheet) (metBefore (allocations sheet) i) a i k)
+-- Half way through it, with so many kinds left.
+pub record Visiting (sheet : Sheet) (a : Allocation) (i left : ℕ) (states : List ℕ) (met : Met) : Type 0 where
+  pub within : left ≤ sheet .head .kinds
+  pub holds : Holds sheet states met (metFrom (allocations sheet) (metBefore (allocations sheet) i) a i (sheet .head .kinds - left))
 
 -- The states of a sheet that was read, in the room for as many as a table may have.
 pub record ExploreAsks (sheet : Sheet) (states : List ℕ) : Type 0 where

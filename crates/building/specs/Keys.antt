@@ -1,10 +1,10 @@
--- The key of an allocation state: one number that stands for its sixteen flags and its remainder.
+-- The key by which the memory of the states met keeps an allocation state: one number that stands for its sixteen flags and its remainder.
 use Prim.Native.Nat.{ℕ, zero, suc, _+_, _-_, _*_, _/_, _%_, _≤_, _<_}
 use mathlib.Core.Path.{_≡_}
 use mathlib.Core.Bool.{Bool}
 use mathlib.Core.List.{List, [], _∷_, _++_}
 use lib.Dec.{eqb}
-use lib.ListN.{length, take, drop}
+use lib.ListN.{length, getD, take, drop}
 use mir.Val.{boolByte}
 use Rattle.convention.specs.declared.Allocation.{Allocation}
 
@@ -41,3 +41,8 @@ pub record SetUpTo (number i left : ℕ) (flags : List Bool) : Type 0 where
   pub within : i ≤ 16
   pub long : length flags ≡ 16
   pub is : take i flags ++ setOf (16 - i) left ≡ setOf 16 number
+
+-- Half way through the keys of so many states: none of the first i is this one.
+pub record Passed (states : List ℕ) (count key i : ℕ) : Type 0 where
+  pub within : i ≤ count
+  pub others : (j : ℕ) → j < i → getD states j 0 ≡ key → ⊥

@@ -1,5 +1,5 @@
 -- What the functions that write the table ask of one another.
-use Prim.Native.Nat.{ℕ, _+_, _-_, _≤_, _<_}
+use Prim.Native.Nat.{ℕ, _+_, _-_, _%_, _≤_, _<_}
 use mathlib.Core.Path.{_≡_}
 use mathlib.Core.List.{List, [], _∷_, _++_}
 use lib.Dec.{leb}
@@ -7,6 +7,8 @@ use lib.ListN.{length}
 use Rattle.convention.specs.declared.Head.{Head}
 use Rattle.convention.specs.declared.SheetKind.{SheetKind}
 use Rattle.convention.specs.declared.Sheet.{Sheet}
+use Rattle.convention.specs.declared.Placement.{Placement}
+use Rattle.convention.specs.declared.Placement.the-variants.{Registers, Stack, Nowhere}
 use Rattle.convention.specs.declared.Allocation.{Allocation}
 use Rattle.convention.specs.declared.Building.{Building}
 use Rattle.convention.specs.Numbers.{stateLimit, orElse, unless}
@@ -17,11 +19,23 @@ use Rattle.convention.specs.Promised.{SheetRead}
 use Rattle.convention.specs.Built.{builtKind, builtTransition, builtStates, builtTable, statesNumber, buildAnswer, buildWrites}
 use Rattle.building.specs.Holding.{Room, Keeps, LeadAsks}
 
--- A sheet that was read, and the keys of all its states, no more than have room.
+-- A sheet that was read, and all its states kept, no more than have room.
 pub record StatesKept (sheet : Sheet) (states : List ℕ) (count : ℕ) : Type 0 where
   pub read : SheetRead sheet
   pub room : Room states count
   pub keeps : Keeps sheet states count (builtStates stateLimit sheet)
+
+-- The residue of a place: on the stack the offset's remainder by A, elsewhere 0.
+abbrev pub residueOf : ℕ → Placement → ℕ
+residueOf modulus (Registers first count) = 0
+residueOf modulus (Stack offset count) = offset .0 % modulus
+residueOf modulus Nowhere = 0
+
+-- A transition's bytes, of a place with its residue.
+abbrev pub placeBytes : Placement → ℕ → ℕ → List ℕ
+placeBytes (Registers first count) residue next = 1 ∷ first .0 ∷ count ∷ next ∷ []
+placeBytes (Stack offset count) residue next = 2 ∷ residue ∷ count ∷ next ∷ []
+placeBytes Nowhere residue next = 0 ∷ 0 ∷ 0 ∷ 0 ∷ []
 
 -- One transition, from byte `at` on: that of a head and a kind that were read.
 pub record CellAsks (h : Head) (k : SheetKind) (states : List ℕ) (count : ℕ) (out : List ℕ) (at : ℕ) : Type 0 where

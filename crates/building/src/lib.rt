@@ -1,5 +1,5 @@
 // Building a sheet's table: exploring the allocation states, then writing. Document 01, 'The built table'.
-mod keys;
+mod memory;
 
 use convention::Allocation;
 use convention::Building;
@@ -14,17 +14,19 @@ ghost use mathlib.Core.Path.{_≡_};
 ghost use Prim.Native.Nat.{_+_, _%_, _≤_, _<_, _^_};
 ghost use mathlib.Core.List.{[], _∷_};
 ghost use lib.ListN.{length};
-ghost use lib.Dec.{eqb};
-ghost use Rattle.convention.specs.Numbers.{stateLimit};
+ghost use mathlib.Core.Bool.{not};
+ghost use lib.Dec.{eqb, leb};
+ghost use Rattle.convention.specs.Numbers.{stateLimit, orElse, unless};
 ghost use Rattle.convention.specs.Bytes.{written, blocks};
 ghost use Rattle.convention.specs.Tables.{rowsAt, rowAt};
 ghost use Rattle.convention.specs.Promised.{SheetRead};
 ghost use Rattle.convention.specs.Rules.{placeFault};
 ghost use Rattle.convention.specs.Explored.{met as metBefore};
-ghost use Rattle.convention.specs.Built.{allocation as allocationOf, allocations, transitionBytes, builtRow, builtKind, builtStates, builtTable, build as builds, buildMemory};
+ghost use Rattle.convention.specs.Built.{allocation as allocationOf, allocations, builtRow, builtKind, builtStates, builtTable, buildAnswer, build as builds, buildMemory};
+ghost use Rattle.building.specs.Reached.{firstAllocation};
 ghost use Rattle.building.specs.Holding.{Holds, LeadAsks, LeadIs, PassAsks, Passes, VisitAsks, ExploreAsks};
-ghost use Rattle.building.specs.Writing.{CellAsks, CellIs, TableAsks, RowAsks, KindsAsk, openingBytes, FrontAsks, frontBytes, BuildingIs};
-use crate::keys::Met;
+ghost use Rattle.building.specs.Writing.{residueOf, placeBytes, CellAsks, CellIs, TableAsks, RowAsks, KindsAsk, openingBytes, FrontAsks, frontBytes, BuildingIs};
+use crate::memory::Met;
 
 // An offset's remainder by A.
 fn residue(modulus: u8, offset: Offset) -> u8
@@ -48,10 +50,10 @@ fn allocation(modulus: u8, s: ByRules) -> Allocation
     }
 }
 
-// Where a kind leads from an allocation state: the place that the rules give, and the key of the state behind it.
+// Where a kind leads from an allocation state: the place that the rules give, and the state behind it.
 pub struct Led {
     pub place: Placement,
-    pub next: u32,
+    pub next: Allocation,
 }
 
 // The rules' step from an allocation state, taken at p = its remainder.
@@ -68,10 +70,7 @@ fn lead(head: Head, kind: SheetKind, a: Allocation) -> Led
     let place = stepped.place;
     let behind = stepped.next;
     let next = allocation(head.modulus, behind);
-    Led {
-        place,
-        next: keys::key(next),
-    }
+    Led { place, next }
 }
 
 // Whether there is a place. A step without one leads nowhere.
@@ -93,7 +92,8 @@ fn pass(head: Head, kind: SheetKind, a: Allocation, states: &mut [u32], met: Met
     let led = lead(head, kind, a);
     let place = led.place;
     if is_place(place) {
-        return keys::meet(states, met, led.next);
+        let next = led.next;
+        return memory::meet(states, met, next);
     }
     met
 }
@@ -103,30 +103,39 @@ fn visit(sheet: Sheet, states: &mut [u32], met: Met, i: usize) -> Met
     requires { ⌜ VisitAsks sheet (now states) met i ⌝ }
     ensures { λ r. ⌜ Holds sheet (now (states .exit)) r (metBefore (allocations sheet) (i + 1)) ⌝ }
 {
-    let from = keys::state_of(states[i]);
+    let from = memory::state_at(states, i);
     let head = sheet.head;
     let kinds = head.kinds;
     let mut more = met;
-    let mut k: u8 = 0;
-    while k < kinds {
-        let kind = sheet.kinds[k as usize];
+    let mut left = kinds;
+    while 0 < left {
+        let kind = sheet.kinds[(kinds - left) as usize];
         more = pass(head, kind, from, states, more);
-        k += 1;
+        left -= 1;
     }
     more
 }
 
-// The states that lists of kinds reach, in the order of meeting: each that was met is gone through, by its number. The
-// first is 'the empty set with 0', whose key is 0.
+// State 0: 'the empty set with 0'.
+fn first_state() -> Allocation
+    ensures { λ r. ⌜ r ≡ firstAllocation ⌝ }
+{
+    Allocation {
+        unavailable: [false; 16],
+        remainder: 0,
+    }
+}
+
+// The states that lists of kinds reach, in the order of meeting: each that was met is gone through, by its number.
 fn explore(sheet: Sheet, states: &mut [u32]) -> Met
     requires { ⌜ ExploreAsks sheet (now states) ⌝ }
     ensures { λ r. ⌜ Holds sheet (now (states .exit)) r (builtStates stateLimit sheet) ⌝ }
 {
-    states[0] = 0;
-    let mut met = Met {
-        count: 1,
+    let none = Met {
+        count: 0,
         over: false,
     };
+    let mut met = memory::meet(states, none, first_state());
     let mut i: usize = 0;
     while i < met.count {
         if met.over {
@@ -159,17 +168,26 @@ fn write_fields(form: u8, a: u8, b: u8, next: u8, out: &mut [u8], at: usize)
     out[at + 3] = next;
 }
 
-// Writes the transition that is made of a place and the next state's number.
-fn write_transition(modulus: u8, place: Placement, next: u8, out: &mut [u8], at: usize)
-    requires { ⌜ (0 < modulus) × (at + 4 ≤ length (now out)) ⌝ }
-    ensures { λ _. ⌜ now (out .exit) ≡ written (now (out .entry)) at (transitionBytes modulus place next) ⌝ }
+// The residue of a place: on the stack its offset's remainder by A. Elsewhere there is none, and 0 is answered.
+fn residue_of(modulus: u8, place: Placement) -> u8
+    requires { ⌜ 0 < modulus ⌝ }
+    ensures { λ r. ⌜ r ≡ residueOf modulus place ⌝ }
+{
+    match place {
+        Placement::Registers(_, _) => 0,
+        Placement::Stack(offset, _) => residue(modulus, offset),
+        Placement::Nowhere => 0,
+    }
+}
+
+// Writes the transition that is made of a place, its residue and the next state's number.
+fn write_transition(place: Placement, residue: u8, next: u8, out: &mut [u8], at: usize)
+    requires { ⌜ at + 4 ≤ length (now out) ⌝ }
+    ensures { λ _. ⌜ now (out .exit) ≡ written (now (out .entry)) at (placeBytes place residue next) ⌝ }
 {
     match place {
         Placement::Registers(first, count) => write_fields(1, first.0, count, next, out, at),
-        Placement::Stack(offset, count) => {
-            let a = residue(modulus, offset);
-            write_fields(2, a, count, next, out, at)
-        }
+        Placement::Stack(_, count) => write_fields(2, residue, count, next, out, at),
         Placement::Nowhere => write_fields(0, 0, 0, 0, out, at),
     }
 }
@@ -188,9 +206,11 @@ fn write_cell(
     ensures { λ _. ⌜ CellIs head kind a (now (states .entry)) count (now (out .entry)) at (now (out .exit)) ⌝ }
 {
     let led = lead(head, kind, a);
-    let number = keys::find(states, count, led.next);
+    let next = led.next;
+    let number = memory::find(states, count, next);
     let place = led.place;
-    write_transition(head.modulus, place, number as u8, out, at);
+    let residue = residue_of(head.modulus, place);
+    write_transition(place, residue, number as u8, out, at);
 }
 
 // Writes the row of state i, in the order of the kinds.
@@ -198,7 +218,7 @@ fn write_row(sheet: Sheet, states: &[u32], count: usize, i: usize, out: &mut [u8
     requires { ⌜ RowAsks sheet (now states) count i (now out) ⌝ }
     ensures { λ _. ⌜ now (out .exit) ≡ written (now (out .entry)) (rowAt (sheet .head .kinds) i) (builtRow sheet (builtStates stateLimit sheet) i) ⌝ }
 {
-    let from = keys::state_of(states[i]);
+    let from = memory::state_at(states, i);
     let head = sheet.head;
     let kinds = head.kinds;
     let at = row_at(kinds, i);
@@ -274,22 +294,40 @@ fn write_table(sheet: Sheet, states: &[u32], count: usize, out: &mut [u8])
     write_rows(sheet, states, count, out);
 }
 
-// Builds the table of a sheet that was read, in 01's order of refusals: 11, 12.
+// 'Building: 11, 12', of the states met and of the length of a table of as many states as were kept.
+fn build_no(met: Met, len: usize, room: usize) -> u8
+    ensures { λ r. ⌜ r ≡ orElse (unless (not (met .over)) 11) (unless (leb len room) 12) ⌝ }
+{
+    let many = fields::unless(!met.over, 11);
+    let narrow = fields::unless(len <= room, 12);
+    fields::or_else(many, narrow)
+}
+
+// What a number answers: N and the table's length where it is 0, else the refusal.
+fn build_answer(number: u8, states: usize, len: usize) -> Building
+    requires { ⌜ states ≤ 200 ⌝ }
+    ensures { λ r. ⌜ r ≡ buildAnswer number states len ⌝ }
+{
+    if number != 0 {
+        return Building::Refused(number);
+    }
+    Building::Built(states as u16, len)
+}
+
+// Builds the table of a sheet that was read. It is written only where no number is given.
 fn build_sheet(sheet: Sheet, out: &mut [u8]) -> Building
     requires { ⌜ SheetRead sheet ⌝ }
     ensures { λ r. ⌜ BuildingIs sheet (now (out .entry)) r (now (out .exit)) ⌝ }
 {
     let mut states = [0u32; 200];
     let met = explore(sheet, &mut states);
-    if met.over {
-        return Building::Refused(11);
-    }
     let len = row_at(sheet.head.kinds, met.count);
-    if out.len() < len {
-        return Building::Refused(12);
+    let number = build_no(met, len, out.len());
+    let answer = build_answer(number, met.count, len);
+    if number == 0 {
+        write_table(sheet, &states, met.count, out);
     }
-    write_table(sheet, &states, met.count, out);
-    Building::Built(met.count as u16, len)
+    answer
 }
 
 // Builds a sheet's table: N and the table's length, with the table in the first bytes of `out`, or a refusal that writes

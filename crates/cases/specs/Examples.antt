@@ -7,10 +7,10 @@ use lib.ListN.{drop, replicate}
 use Rattle.convention.specs.declared.Building.{Building}
 use Rattle.convention.specs.declared.Building.the-variants.{Built}
 use Rattle.convention.specs.declared.Allocation.{Allocation}
-use Rattle.convention.specs.Numbers.{stateLimit}
 use Rattle.convention.specs.Sheets.{sheetOf}
-use Rattle.convention.specs.Explored.{Entry}
-use Rattle.convention.specs.Built.{allocations, builtStates}
+use Rattle.convention.specs.Explored.{Automaton, Entry}
+use Rattle.convention.specs.Built.{allocations}
+use Rattle.cases.specs.Readings.{statesThenKinds}
 use Rattle.cases.specs.Cases.{simple, stacklessDouble}
 
 -- 'the table is 158 bytes': the room that building is given.
@@ -42,8 +42,11 @@ full remainder = record { unavailable = replicate 4 true ++ replicate 12 false; 
 abbrev pub lastStates : List Allocation
 lastStates = map full (0 ∷ 1 ∷ 4 ∷ 2 ∷ 5 ∷ 3 ∷ 6 ∷ 7 ∷ [])
 
-abbrev pub statesFrom : ℕ → List ℕ → List Allocation
-statesFrom i s = map (λ (e : Entry (allocations (sheetOf s))). e .node) (drop i (builtStates stateLimit (sheetOf s)))
+abbrev pub numbering : (X : Automaton) → List (Entry X)
+numbering = statesThenKinds
+
+abbrev pub statesFrom : ((X : Automaton) → List (Entry X)) → ℕ → List ℕ → List Allocation
+statesFrom numbered i s = map (λ (e : Entry (allocations (sheetOf s))). e .node) (drop i (numbered (allocations (sheetOf s))))
 
 -- `12 3 clean`, for S.
 abbrev pub cleanLine : List ℕ

@@ -1,18 +1,20 @@
--- How a reader takes document 01, as far as P1 to P12 go through it: as the definitions say it, or by one of the misreadings that 01 names.
-use Prim.Native.Nat.{ℕ, _+_, _%_}
-use mathlib.Core.List.{List, map}
-use lib.Dec.{eqb}
+-- How a reader takes document 01, as far as its examples go through it: as the definitions say it, or by one of the misreadings that 01 names.
+use Prim.Native.Nat.{ℕ, zero, suc, _+_, _%_}
+use mathlib.Core.Bool.{true, false, _&&_}
+use mathlib.Core.List.{List, [], _∷_, map}
+use lib.Dec.{ltb, eqb}
 use lib.ListN.{length}
 use Rattle.convention.specs.declared.Sheet.{Sheet}
 use Rattle.convention.specs.declared.SheetKind.{SheetKind}
 use Rattle.convention.specs.declared.Table.{Table}
-use Rattle.convention.specs.Numbers.{orElse, unless}
+use Rattle.convention.specs.Numbers.{stateLimit, orElse, unless}
 use Rattle.convention.specs.Fields.{lengthField}
 use Rattle.convention.specs.Sheets.{sheetNo}
 use Rattle.convention.specs.Tables.{tableOf, tableKind, transition}
 use Rattle.convention.specs.Lists.{Steps}
 use Rattle.convention.specs.Rules.{byRules}
 use Rattle.convention.specs.Walked.{byTable}
+use Rattle.convention.specs.Explored.{Automaton, Entry, firstEntry, entry, meet, met}
 use Rattle.convention.specs.Built.{allocation, fromAllocation}
 use Rattle.convention.specs.Judged.{judgeRoom}
 
@@ -83,3 +85,27 @@ lengthOfAll = record {
   table = byTable;
   hunted = judgeRoom;
 }
+
+-- How states are numbered: 'as first met, going through states by number and in each through kinds in order'.
+abbrev pub statesThenKinds : (X : Automaton) → List (Entry X)
+statesThenKinds X = met X stateLimit
+
+-- The same misread: going through kinds in order and in each through states by number, from entry i on; and so in rounds.
+unfoldable pub alongKind : (X : Automaton) → ℕ → ℕ → List (Entry X) → ℕ → List (Entry X)
+alongKind X k zero l i = l
+alongKind X k (suc turns) l i =
+    elim (ltb i (length l) && X .goes (entry X l i .node) k) [
+      | true ↦ alongKind X k turns (meet X l (record { node = X .next (entry X l i .node) k; parent = i; kind = k })) (suc i)
+      | false ↦ alongKind X k turns l (suc i)
+    ]
+
+unfoldable pub kindByKind : (X : Automaton) → ℕ → ℕ → List (Entry X) → List (Entry X)
+kindByKind X turns zero l = l
+kindByKind X turns (suc j) l = alongKind X j turns (kindByKind X turns j l) 0
+
+unfoldable pub inRounds : (X : Automaton) → ℕ → ℕ → List (Entry X) → List (Entry X)
+inRounds X turns zero l = l
+inRounds X turns (suc rounds) l = inRounds X turns rounds (kindByKind X turns (X .kinds) l)
+
+abbrev pub kindsThenStates : (X : Automaton) → List (Entry X)
+kindsThenStates X = inRounds X 16 2 (firstEntry X ∷ [])

@@ -1,5 +1,7 @@
--- `build_sheet`: the exploration is over exactly where 11 is given; else the states are all there, and the length is the table's.
-use Rattle.building.proofs.Answering.{too-many, too-short, table-asks, table-built}
+-- `build_sheet`: the number is that of 'Building: 11, 12'; where it is 0 the states are all there, and the length is the table's.
+use Rattle.building.proofs.Answering.{table-asks, table-built, table-refused}
+use mathlib.Core.Path.{_≡_}
+use native.Mathlib.Omega.{arith}
 use borrow.Author.Needs.{needs}
 use Rattle.building.proofs.build_sheet.Statement.{statement}
 use Rattle.building.proofs.build_sheet.Tie as tie
@@ -10,29 +12,33 @@ slice-aggregate-explore c = search needs
 explore-requires : tie.Need-explore-requires
 explore-requires c κs = search needs
 
-returns : tie.Need-returns
-returns c = search (too-many, needs)
-
 row-at-requires : tie.Need-row-at-requires
 row-at-requires c κs = search needs
 
-returns-2 : tie.Need-returns-2
-returns-2 c = search (too-short, needs)
+build-no-requires : tie.Need-build-no-requires
+build-no-requires c κs = search needs
+
+build-answer-requires : tie.Need-build-answer-requires
+build-answer-requires c κs = search needs
 
 slice-aggregate-write-table : tie.Need-slice-aggregate-write-table
 slice-aggregate-write-table c = search needs
 
 write-table-requires : tie.Need-write-table-requires
-write-table-requires c κs = search (table-asks, needs)
-
-cast-t15 : tie.Need-cast-t15
-cast-t15 c = search needs
+write-table-requires c κs =
+    let none : c .before .before .before .before .build-no .result ≡ 0 = omega arith in
+    search (table-asks, needs)
 
 same-length : tie.Need-same-length
 same-length c = search needs
 
-returns-3 : tie.Need-returns-3
-returns-3 c = search (table-built, needs)
+returns : tie.Need-returns
+returns c =
+    let none : c .before .before .before .before .before .before .before .build-no .result ≡ 0 = omega arith in
+    search (table-built, needs)
+
+returns-2 : tie.Need-returns-2
+returns-2 c = search (table-refused, needs)
 
 pub build-sheet-spec : {M : Type 1} → statement M
 build-sheet-spec =
@@ -40,11 +46,11 @@ build-sheet-spec =
     (tie.spec
     slice-aggregate-explore
     explore-requires
-    returns
     row-at-requires
-    returns-2
+    build-no-requires
+    build-answer-requires
     slice-aggregate-write-table
     write-table-requires
-    cast-t15
     same-length
-    returns-3)
+    returns
+    returns-2)

@@ -13,8 +13,11 @@ Inv-loop sheet states₀ met₀ i₀ states met i = Exploring sheet i states met
 abbrev μ-loop : tie.MeasureT-loop
 μ-loop sheet states₀ met₀ i₀ states met i = stateLimit - i
 
-slice-write-states : tie.Need-slice-write-states Inv-loop μ-loop
-slice-write-states c = search needs
+first-state-requires : tie.Need-first-state-requires Inv-loop μ-loop
+first-state-requires c κs = search needs
+
+meet-requires : tie.Need-meet-requires Inv-loop μ-loop
+meet-requires c κs = search needs
 
 loop-holds : tie.Need-loop-holds Inv-loop μ-loop
 loop-holds c = search (exploring-begin, needs)
@@ -49,7 +52,8 @@ explore-spec =
     (tie.spec
     Inv-loop
     μ-loop
-    slice-write-states
+    first-state-requires
+    meet-requires
     loop-holds
     same-length
     returns

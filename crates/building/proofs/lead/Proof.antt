@@ -1,4 +1,4 @@
--- `lead`: the rules' step at p = the remainder; the state behind it stands in the next allocation state, whose key is answered.
+-- `lead`: the rules' step at p = the remainder; the state behind it stands in the next allocation state.
 use Rattle.building.proofs.Leading.{step-asks, modulus-some, led}
 use borrow.Author.Needs.{needs}
 use Rattle.building.proofs.lead.Statement.{statement}
@@ -13,11 +13,8 @@ step-requires c κs = search (step-asks, needs)
 allocation-requires : tie.Need-allocation-requires
 allocation-requires c κs = search (modulus-some, needs)
 
-key-requires : tie.Need-key-requires
-key-requires c κs = search needs
-
 returns : tie.Need-returns
 returns c = search (led, needs)
 
 pub lead-spec : {M : Type 1} → statement M
-lead-spec = tie.close (tie.spec cast-t10 step-requires allocation-requires key-requires returns)
+lead-spec = tie.close (tie.spec cast-t10 step-requires allocation-requires returns)

@@ -14,14 +14,8 @@ Inv-loop states count i out₀ sheet from head kinds at k₀ out k = BlocksLeft 
 abbrev μ-loop : tie.MeasureT-loop
 μ-loop states count i out₀ sheet from head kinds at k₀ out k = kinds - k
 
-mul-state-of : tie.Need-mul-state-of Inv-loop μ-loop
-mul-state-of c = search needs
-
-shared-slice-read-state-of : tie.Need-shared-slice-read-state-of Inv-loop μ-loop
-shared-slice-read-state-of c = search needs
-
-state-of-requires : tie.Need-state-of-requires Inv-loop μ-loop
-state-of-requires c κs = search needs
+state-at-requires : tie.Need-state-at-requires Inv-loop μ-loop
+state-at-requires c κs = search needs
 
 row-at-requires : tie.Need-row-at-requires Inv-loop μ-loop
 row-at-requires c κs = search needs
@@ -71,9 +65,7 @@ write-row-spec =
     (tie.spec
     Inv-loop
     μ-loop
-    mul-state-of
-    shared-slice-read-state-of
-    state-of-requires
+    state-at-requires
     row-at-requires
     loop-holds
     cast-kind

@@ -13,9 +13,6 @@ write-fields-requires c κs = search needs
 enum-known-place-2 : tie.Need-enum-known-place-2
 enum-known-place-2 c = search needs
 
-residue-requires : tie.Need-residue-requires
-residue-requires c κs = search needs
-
 write-fields-requires-2 : tie.Need-write-fields-requires-2
 write-fields-requires-2 c κs = search needs
 
@@ -50,7 +47,6 @@ write-transition-spec =
     enum-known-place
     write-fields-requires
     enum-known-place-2
-    residue-requires
     write-fields-requires-2
     enum-told
     write-fields-requires-3

@@ -1,10 +1,11 @@
-// The keys of allocation states, and the states met, kept by their keys in memory that is lent: to find one is a comparison
-// of two numbers for each.
+// The memory of the states met, which is lent. It keeps each as one number, its key, so that to find one is a comparison of
+// two numbers for each. Its callers know no key: they give and get allocation states.
 use convention::Allocation;
 ghost use mathlib.Core.Path.{_≡_};
 ghost use Prim.Native.Nat.{_<_};
+ghost use lib.ListN.{length};
 ghost use Rattle.building.specs.Keys.{setNumber, setOf, stateOf, KeyIs};
-ghost use Rattle.building.specs.Holding.{Room, Finds, Meets};
+ghost use Rattle.building.specs.Holding.{Room, StateAt, Finds, Meets};
 
 // How many states were met. Once it is `over`, more were met than have room.
 pub(crate) struct Met {
@@ -42,7 +43,7 @@ fn set_of(number: u32) -> [bool; 16]
 }
 
 // The key of an allocation state.
-pub(crate) fn key(a: Allocation) -> u32
+fn key(a: Allocation) -> u32
     ensures { λ r. ⌜ KeyIs r a ⌝ }
 {
     let flags = a.unavailable;
@@ -50,7 +51,7 @@ pub(crate) fn key(a: Allocation) -> u32
 }
 
 // The allocation state that has a key.
-pub(crate) fn state_of(key: u32) -> Allocation
+fn state_of(key: u32) -> Allocation
     ensures { λ r. ⌜ r ≡ stateOf key ⌝ }
 {
     let unavailable = set_of(key % 0x10000);
@@ -60,14 +61,23 @@ pub(crate) fn state_of(key: u32) -> Allocation
     }
 }
 
-// The number of a state among those met: the place of the first that has its key, or their count where none has.
-pub(crate) fn find(states: &[u32], count: usize, key: u32) -> usize
-    requires { ⌜ Room (now states) count ⌝ }
-    ensures { λ r. ⌜ Finds (now (states .entry)) count key r ⌝ }
+// State i of those met.
+pub(crate) fn state_at(states: &[u32], i: usize) -> Allocation
+    requires { ⌜ i < length (now states) ⌝ }
+    ensures { λ r. ⌜ StateAt (now (states .entry)) i r ⌝ }
 {
+    state_of(states[i])
+}
+
+// The number of a state among those met, or their count where it was not met.
+pub(crate) fn find(states: &[u32], count: usize, a: Allocation) -> usize
+    requires { ⌜ Room (now states) count ⌝ }
+    ensures { λ r. ⌜ Finds (now (states .entry)) count a r ⌝ }
+{
+    let wanted = key(a);
     let mut i: usize = 0;
     while i < count {
-        if states[i] == key {
+        if states[i] == wanted {
             return i;
         }
         i += 1;
@@ -76,11 +86,11 @@ pub(crate) fn find(states: &[u32], count: usize, key: u32) -> usize
 }
 
 // A state met: kept behind the others if it is new and there is room for it.
-pub(crate) fn meet(states: &mut [u32], met: Met, key: u32) -> Met
+pub(crate) fn meet(states: &mut [u32], met: Met, a: Allocation) -> Met
     requires { ⌜ Room (now states) (met .count) ⌝ }
-    ensures { λ r. ⌜ Meets (now (states .entry)) met key r (now (states .exit)) ⌝ }
+    ensures { λ r. ⌜ Meets (now (states .entry)) met a r (now (states .exit)) ⌝ }
 {
-    let at = find(states, met.count, key);
+    let at = find(states, met.count, a);
     if at < met.count {
         return met;
     }
@@ -90,7 +100,7 @@ pub(crate) fn meet(states: &mut [u32], met: Met, key: u32) -> Met
             over: true,
         };
     }
-    states[at] = key;
+    states[at] = key(a);
     Met {
         count: at + 1,
         over: met.over,

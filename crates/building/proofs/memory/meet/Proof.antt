@@ -1,8 +1,8 @@
--- `meet`: where the key is found is the state's number, so the state is kept already, has no room, or is kept behind the others, as the definition appends it.
-use Rattle.building.proofs.Meeting.{meets-known, meets-over, meets-new}
+-- `meet`: where the state is found is its number, so it is kept already, has no room, or is kept behind the others, as the definition appends it.
+use Rattle.building.proofs.Keeping.{meets-known, meets-over, meets-new}
 use borrow.Author.Needs.{needs}
-use Rattle.building.proofs.keys.meet.Statement.{statement}
-use Rattle.building.proofs.keys.meet.Tie as tie
+use Rattle.building.proofs.memory.meet.Statement.{statement}
+use Rattle.building.proofs.memory.meet.Tie as tie
 
 find-requires : tie.Need-find-requires
 find-requires c κs = search needs
@@ -19,14 +19,17 @@ same-length-2 c = search needs
 returns-2 : tie.Need-returns-2
 returns-2 c = search (meets-over, needs)
 
+key-requires : tie.Need-key-requires
+key-requires c κs = search needs
+
 mul-states : tie.Need-mul-states
 mul-states c = search needs
 
 slice-write-states : tie.Need-slice-write-states
 slice-write-states c = search needs
 
-add-t8 : tie.Need-add-t8
-add-t8 c = search needs
+add-t9 : tie.Need-add-t9
+add-t9 c = search needs
 
 same-length-3 : tie.Need-same-length-3
 same-length-3 c = search needs
@@ -43,8 +46,9 @@ meet-spec =
     returns
     same-length-2
     returns-2
+    key-requires
     mul-states
     slice-write-states
-    add-t8
+    add-t9
     same-length-3
     returns-3)

@@ -3,8 +3,8 @@ use Prim.Native.Nat.{_-_}
 use Rattle.building.specs.Keys.{SetUpTo}
 use Rattle.building.proofs.Keyed.{set-begin, set-on, set-end}
 use borrow.Author.Needs.{needs}
-use Rattle.building.proofs.keys.set_of.Statement.{statement}
-use Rattle.building.proofs.keys.set_of.Tie as tie
+use Rattle.building.proofs.memory.set_of.Statement.{statement}
+use Rattle.building.proofs.memory.set_of.Tie as tie
 
 abbrev Inv-loop : tie.InvT-loop
 Inv-loop number flags₀ left₀ i₀ flags left i = SetUpTo number i left flags

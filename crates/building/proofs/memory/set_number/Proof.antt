@@ -2,8 +2,8 @@
 use Rattle.building.specs.Keys.{NumberFrom}
 use Rattle.building.proofs.Keyed.{number-begin, number-fits, number-on, number-end}
 use borrow.Author.Needs.{needs}
-use Rattle.building.proofs.keys.set_number.Statement.{statement}
-use Rattle.building.proofs.keys.set_number.Tie as tie
+use Rattle.building.proofs.memory.set_number.Statement.{statement}
+use Rattle.building.proofs.memory.set_number.Tie as tie
 
 abbrev Inv-loop : tie.InvT-loop
 Inv-loop flags number₀ i₀ number i = NumberFrom flags i number

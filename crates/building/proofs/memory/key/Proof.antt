@@ -1,8 +1,8 @@
 -- `key`: the number that `set_number` answers, with the remainder behind it.
 use Rattle.building.proofs.Keyed.{key-is}
 use borrow.Author.Needs.{needs}
-use Rattle.building.proofs.keys.key.Statement.{statement}
-use Rattle.building.proofs.keys.key.Tie as tie
+use Rattle.building.proofs.memory.key.Statement.{statement}
+use Rattle.building.proofs.memory.key.Tie as tie
 
 set-number-requires : tie.Need-set-number-requires
 set-number-requires c κs = search needs

@@ -1,7 +1,7 @@
 -- `state_of`: the set that `set_of` answers, with the remainder.
 use borrow.Author.Needs.{needs}
-use Rattle.building.proofs.keys.state_of.Statement.{statement}
-use Rattle.building.proofs.keys.state_of.Tie as tie
+use Rattle.building.proofs.memory.state_of.Statement.{statement}
+use Rattle.building.proofs.memory.state_of.Tie as tie
 
 set-of-requires : tie.Need-set-of-requires
 set-of-requires c κs = search needs

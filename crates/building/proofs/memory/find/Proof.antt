@@ -1,16 +1,19 @@
--- `find`: at each turn no key before key i is the one.
+-- `find`: at each turn no key before key i is the state's.
 use Prim.Native.Nat.{_-_}
-use Rattle.building.specs.Holding.{Passed}
-use Rattle.building.proofs.Keyed.{find-begin, find-here, find-on, find-end}
+use Rattle.building.specs.Keys.{Passed}
+use Rattle.building.proofs.Keeping.{find-begin, find-here, find-on, find-end}
 use borrow.Author.Needs.{needs}
-use Rattle.building.proofs.keys.find.Statement.{statement}
-use Rattle.building.proofs.keys.find.Tie as tie
+use Rattle.building.proofs.memory.find.Statement.{statement}
+use Rattle.building.proofs.memory.find.Tie as tie
 
 abbrev Inv-loop : tie.InvT-loop
-Inv-loop states count key i₀ i = Passed states count key i
+Inv-loop states count wanted i₀ i = Passed states count wanted i
 
 abbrev μ-loop : tie.MeasureT-loop
-μ-loop states count key i₀ i = count - i
+μ-loop states count wanted i₀ i = count - i
+
+key-requires : tie.Need-key-requires Inv-loop μ-loop
+key-requires c κs = search needs
 
 loop-holds : tie.Need-loop-holds Inv-loop μ-loop
 loop-holds c = search (find-begin, needs)
@@ -42,6 +45,7 @@ find-spec =
     (tie.spec
     Inv-loop
     μ-loop
+    key-requires
     loop-holds
     mul-if1
     shared-slice-read-if1

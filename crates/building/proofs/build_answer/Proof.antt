@@ -1,0 +1,17 @@
+-- `build_answer`: a number that is not 0 refuses.
+use Rattle.building.proofs.Answering.{answer-refused, answer-built}
+use borrow.Author.Needs.{needs}
+use Rattle.building.proofs.build_answer.Statement.{statement}
+use Rattle.building.proofs.build_answer.Tie as tie
+
+returns : tie.Need-returns
+returns c = search (answer-refused, needs)
+
+cast-t5 : tie.Need-cast-t5
+cast-t5 c = search needs
+
+returns-2 : tie.Need-returns-2
+returns-2 c = search (answer-built, needs)
+
+pub build-answer-spec : {M : Type 1} → statement M
+build-answer-spec = tie.close (tie.spec returns cast-t5 returns-2)
