@@ -1,7 +1,7 @@
 -- The three demands hold.
 use Prim.Native.Nat.{ℕ, _*_, _≤_, _<_}
 use mathlib.Core.Path.{_≡_, refl, sym, ap, _∙_}
-use mathlib.Core.Logic.{_⊎_, inl, inr, _↔_}
+use mathlib.Core.Logic.{inl, inr, _↔_}
 use mathlib.Core.List.{List}
 use native.Mathlib.Nat.{eq-zero-or-pos}
 use native.Mathlib.Omega.{arith}
@@ -16,7 +16,7 @@ use Rattle.convention.specs.declared.Judging.the-variants.{Clean, Fault}
 use Rattle.convention.specs.Numbers.{stateLimit, argumentLimit}
 use Rattle.convention.specs.Sheets.{sheetNo, sheetOf}
 use Rattle.convention.specs.Tables.{tableNo, tableOf}
-use Rattle.convention.specs.Lists.{records, placingMemory}
+use Rattle.convention.specs.Lists.{Steps, faultFrom, stopFrom, records, placingMemory}
 use Rattle.convention.specs.Rules.{byRules, placeByRules, rulesMemory}
 use Rattle.convention.specs.Walked.{byTable, placeByTable, tableMemory}
 use Rattle.convention.specs.Built.{builtTable, build, buildMemory}
@@ -32,11 +32,11 @@ use Rattle.walking.proofs.WellPlaced.{well-placed}
 use Rattle.building.proofs.Agreement.{agree-stop, agree-before, agree-p}
 use Rattle.building.proofs.Calls.{same-answer, same-bytes}
 use Rattle.building.proofs.Bytes.{built-sheet, bytes-are}
-use Rattle.judging.proofs.Unique.{judge-zero}
+use Rattle.judging.proofs.Fronts.{stops}
 use Rattle.demands.proofs.Reading.{sheet-refuses, table-refuses}
-use Rattle.demands.proofs.Placing.{placing-refuses}
+use Rattle.demands.proofs.Placing.{placing-refuses, placing-placed}
 use Rattle.demands.proofs.Others.{building-refuses, judging-refuses, row-refuses}
-use Rattle.demands.specs.Demands.{Demand1, DownToTheByte, tableStop, PlacesAlike, Demand2, FirstWrong, Demand3}
+use Rattle.demands.specs.Demands.{Demand1, DownToTheByte, tableStop, PlacesAlike, Demand2, FirstWrong, JudgedRight, Demand3}
 
 -- ---- demand 1
 
@@ -58,12 +58,18 @@ demand-1 = record {
 
 -- The records of a list stand one behind the other, in front of what was there.
 down-to-the-byte : (s ks out : List ℕ) (n : ℕ) (p : Offset) → placeByRules argumentLimit s ks (length out) ≡ Placed n p
-    → DownToTheByte s ks out (rulesMemory argumentLimit s ks out)
-unfolding rulesMemory placingMemory
+    → DownToTheByte s ks out n p (rulesMemory argumentLimit s ks out)
+unfolding placeByRules rulesMemory placingMemory
 down-to-the-byte s ks out n p placed = rw placed (record {
+  count = placing-placed (sheetNo s) _ (omega (arith, sheet-refuses s .others)) (byRules (sheetOf s)) ks out n p placed .0;
+  final = placing-placed (sheetNo s) _ (omega (arith, sheet-refuses s .others)) (byRules (sheetOf s)) ks out n p placed .1;
   records = λ i h. record-at _ _ i (rw (places-length (byRules (sheetOf s)) (byRules (sheetOf s) .begin) ks) h);
   others = rw (← records-long (byRules (sheetOf s)) ks) (drop-at (records (byRules (sheetOf s)) ks) _ _ refl);
 })
+
+-- A walk that stops behind its list has no fault.
+no-stop : (M : Steps) (s : M .State) (ks : List ℕ) → stopFrom M s ks ≡ length ks → faultFrom M s ks ≡ 0
+no-stop M s ks e = elim (eq-zero-or-pos (faultFrom M s ks)) [ inl z ↦ z | inr f ↦ absurd (omega (arith, stops M s ks f .inside)) ]
 
 -- What holds of the table of a sheet that can be built holds of the bytes that building wrote, which are that table.
 places-alike : (s out : List ℕ) (n len : ℕ) → build stateLimit s (length out) ≡ Built n len
@@ -77,7 +83,7 @@ places-alike s out n len built =
           let alike : i < tableStop (builtTable stateLimit (sheetOf s)) ks = rw (agree-stop stateLimit (sheetOf s) sheet whole ks below) h in
           sym (getD-take _ _ i Nowhere alike)
           ∙ (ap (λ l. getD l i Nowhere) (agree-before stateLimit (sheetOf s) sheet whole ks below) ∙ getD-take _ _ i Nowhere h);
-      final = λ ks below e. agree-p stateLimit (sheetOf s) sheet whole ks below e;
+      final = λ ks below e. agree-p stateLimit (sheetOf s) sheet whole ks below (no-stop (byRules (sheetOf s)) _ ks e);
       answer = same-answer stateLimit argumentLimit s read whole (omega arith);
       memory = same-bytes stateLimit argumentLimit s read whole (omega arith);
     })
@@ -102,39 +108,32 @@ module _ (t : List ℕ) (e : tableNo stateLimit t ≡ 0) where
   unfolding FaultyList
   faulty-wrong ks f w = omega (arith, f .1, goes-right ks (f .0) .1 w)
 
-module _ (t out : List ℕ) where
-  failed : (fault n : ℕ) (after : List ℕ) → Judges stateLimit t out (Fault fault n) after → FirstWrong t (take n after)
+-- So of whatever answer judging gives.
+module _ (t out : List ℕ) (read : tableNo stateLimit t ≡ 0) (room : 2 * tableOf t .states ≤ length out) where
+  first-wrong : (fault n : ℕ) (after : List ℕ) → Judges stateLimit t out (Fault fault n) after → FirstWrong t (take n after)
   unfolding Judges FaultyList
-  failed fault n after j =
-      let read = judge-zero stateLimit t (length out) (j .0) .0 in
+  first-wrong fault n after j = record {
+    known = j .2 .faulty .0;
+    wrong = faulty-wrong t read (take n after) (j .2 .faulty);
+    first = λ ks below before. right-unless t read ks below (λ f. j .2 .first ks f before);
+  }
+
+  judged-right : (answer : Judging) (after : List ℕ) → Judges stateLimit t out answer after → JudgedRight t answer after
+  unfolding Judges CleanTable
+  judged-right Clean after j = record {
+    passed = (λ _ ks below. right-unless t read ks below (j .1 ks), λ _. refl);
+    failed = λ fault n e. absurd (let z : _≡_ {A = ℕ} 0 1 = cc in omega arith);
+    either = inl refl;
+  }
+  judged-right (Fault fault n) after j =
+      let wrong = first-wrong fault n after j in
       record {
-        known = j .2 .faulty .0;
-        wrong = faulty-wrong t read (take n after) (j .2 .faulty);
-        first = λ ks below before. right-unless t read ks below (λ f. j .2 .first ks f before);
+        passed = (λ e. absurd (let z : _≡_ {A = ℕ} 0 1 = cc in omega arith), λ all. absurd (wrong .wrong (all _ (wrong .known))));
+        failed = λ fault′ n′ e. let same : n ≡ n′ = cc in rw same at wrong;
+        either = inr (fault, n, refl);
       }
-
-  module _ (read : tableNo stateLimit t ≡ 0) (room : 2 * tableOf t .states ≤ length out) where
-    passed : (answer : Judging) (after : List ℕ) → Judges stateLimit t out answer after
-        → answer ≡ Clean ↔ ((ks : List ℕ) → KindsBelow (tableOf t .head .kinds) ks → WellPlaced t ks)
-    unfolding Judges CleanTable
-    passed Clean after j = (λ _ ks below. right-unless t read ks below (j .1 ks), λ _. refl)
-    passed (Fault fault n) after j =
-        let wrong = failed fault n after j in
-        (λ e. absurd (let z : _≡_ {A = ℕ} 0 1 = cc in omega arith), λ all. absurd (wrong .wrong (all _ (wrong .known))))
-    passed (Judging.Refused number) after j =
-        absurd (omega (arith, judging-refuses t out (Judging.Refused number) after j .success .1 (read, room), j .1))
-
-    clean-or-not : (answer : Judging) (after : List ℕ) → Judges stateLimit t out answer after → (answer ≡ Clean) ⊎ ((fault n : ℕ) × (answer ≡ Fault fault n))
-    unfolding Judges
-    clean-or-not Clean after j = inl refl
-    clean-or-not (Fault fault n) after j = inr (fault, n, refl)
-    clean-or-not (Judging.Refused number) after j =
-        absurd (omega (arith, judging-refuses t out (Judging.Refused number) after j .success .1 (read, room), j .1))
+  judged-right (Judging.Refused number) after j =
+      absurd (omega (arith, judging-refuses t out (Judging.Refused number) after j .success .1 (read, room), j .1))
 
 pub demand-3 : Demand3
-demand-3 = record {
-  passed = λ t out answer after read room. passed t out read room answer after;
-  failed = failed;
-  either = λ t out answer after read room. clean-or-not t out read room answer after;
-  faults = λ t ks read. goes-right t read ks;
-}
+demand-3 = record { judged = λ t out answer after read room. judged-right t out read room answer after; faults = λ t ks read. goes-right t read ks }

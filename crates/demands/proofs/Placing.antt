@@ -83,11 +83,11 @@ module _ (m : ℕ) (M : Steps) (ks : List ℕ) where
   data Walked (answer : Placing) : Type 0 where
     unknown : (at : ℕ) → answer ≡ Unknown at → FirstUnknown m ks at → Walked answer
     faulty : (at fault : ℕ) → answer ≡ Faulty at fault → KindsBelow m ks → FirstFault M ks at fault → Walked answer
-    placed : (p : Offset) → answer ≡ Placed (length ks) p → KindsBelow m ks → faultFrom M (M .begin) ks ≡ 0 → Walked answer
+    placed : answer ≡ Placed (length ks) (M .p (stateFrom M (M .begin) ks)) → KindsBelow m ks → faultFrom M (M .begin) ks ≡ 0 → Walked answer
 
   walk-answers : (fault : ℕ) → faultFrom M (M .begin) ks ≡ fault → KindsBelow m ks
       → Walked (walkAnswer fault (stopFrom M (M .begin) ks) (length ks) (M .p (stateFrom M (M .begin) ks)))
-  walk-answers zero e below = placed _ refl below e
+  walk-answers zero e below = placed refl below e
   walk-answers (suc fault) e below =
       let first = fault-first M ks (rw e (omega arith)) in
       faulty _ _ refl below (rw e at first)
@@ -108,7 +108,7 @@ module _ (m : ℕ) (M : Steps) (ks : List ℕ) where
     λ e. absurd (elim walked [
       | unknown at a f ↦ let z : _≡_ {A = ℕ} 0 1 = cc in omega arith
       | faulty at fault a b f ↦ let z : _≡_ {A = ℕ} 0 1 = cc in omega arith
-      | placed p a b f ↦ let z : _≡_ {A = ℕ} 0 1 = cc in omega arith
+      | placed a b f ↦ let z : _≡_ {A = ℕ} 0 1 = cc in omega arith
     ]),
     λ e. absurd (omega arith),
   )
@@ -121,13 +121,13 @@ module _ (m : ℕ) (M : Steps) (ks : List ℕ) where
       elim walked [
         | unknown at′ a f ↦ let same : at′ ≡ at = cc in rw same at f
         | faulty at′ fault a b f ↦ absurd (let z : _≡_ {A = ℕ} 0 1 = cc in omega arith)
-        | placed p a b f ↦ absurd (let z : _≡_ {A = ℕ} 0 1 = cc in omega arith)
+        | placed a b f ↦ absurd (let z : _≡_ {A = ℕ} 0 1 = cc in omega arith)
       ],
     ),
     λ e. elim walked [
       | unknown at′ a f ↦ a ∙ ap Unknown (sym (first-unknown m ks at′ f) ∙ first-unknown m ks at (e .1))
       | faulty at′ fault a b f ↦ absurd (not-both at (e .1) b)
-      | placed p a b f ↦ absurd (not-both at (e .1) b)
+      | placed a b f ↦ absurd (not-both at (e .1) b)
     ],
   )
   behind-unknown (suc number) at = (λ e. absurd (let z : _≡_ {A = ℕ} 0 1 = cc in omega arith), λ e. absurd (omega arith))
@@ -137,7 +137,7 @@ module _ (m : ℕ) (M : Steps) (ks : List ℕ) where
     λ e. elim walked [
       | unknown at′ a f ↦ absurd (let z : _≡_ {A = ℕ} 0 1 = cc in omega arith)
       | faulty at′ fault′ a b f ↦ let same : at′ ≡ at = cc in let too : fault′ ≡ fault = cc in (refl, b, rw (same, too) at f)
-      | placed p a b f ↦ absurd (let z : _≡_ {A = ℕ} 0 1 = cc in omega arith)
+      | placed a b f ↦ absurd (let z : _≡_ {A = ℕ} 0 1 = cc in omega arith)
     ],
     λ e. elim walked [
       | unknown at′ a f ↦ absurd (not-both at′ f (e .1))
@@ -145,7 +145,7 @@ module _ (m : ℕ) (M : Steps) (ks : List ℕ) where
           let same : at′ ≡ at = sym (first-stop M ks at′ fault′ f) ∙ first-stop M ks at fault (e .2) in
           let too : fault′ ≡ fault = sym (first-fault M ks at′ fault′ f) ∙ first-fault M ks at fault (e .2) in
           a ∙ rw (same, too)
-      | placed p a b f ↦ absurd (omega (arith, first-fault M ks at fault (e .2), e .2 .faulty))
+      | placed a b f ↦ absurd (omega (arith, first-fault M ks at fault (e .2), e .2 .faulty))
     ],
   )
   behind-faulty (suc number) at fault = (λ e. absurd (let z : _≡_ {A = ℕ} 0 1 = cc in omega arith), λ e. absurd (omega arith))
@@ -155,15 +155,23 @@ module _ (m : ℕ) (M : Steps) (ks : List ℕ) where
     λ e. elim walked [
       | unknown at a f ↦ absurd (omega (arith, rw a at e))
       | faulty at fault a b f ↦ absurd (omega (arith, rw a at e))
-      | placed p a b f ↦ (refl, b, f)
+      | placed a b f ↦ (refl, b, f)
     ],
     λ e. elim walked [
       | unknown at a f ↦ absurd (not-both at f (e .1))
       | faulty at fault a b f ↦ absurd (omega (arith, first-fault M ks at fault f, f .faulty, e .2))
-      | placed p a b f ↦ rw a
+      | placed a b f ↦ rw a
     ],
   )
   behind-placed (suc number) = (λ e. absurd (omega arith), λ e. absurd (omega arith))
+
+  behind-says : (number n : ℕ) (p : Offset) → placingAnswer number m M ks ≡ Placed n p → (n ≡ length ks) × (p ≡ M .p (stateFrom M (M .begin) ks))
+  behind-says zero n p e = elim walked [
+    | unknown at a f ↦ absurd (let z : _≡_ {A = ℕ} 0 1 = cc in omega arith)
+    | faulty at fault a b f ↦ absurd (let z : _≡_ {A = ℕ} 0 1 = cc in omega arith)
+    | placed a b f ↦ (cc, cc)
+  ]
+  behind-says (suc number) n p e = absurd (let z : _≡_ {A = ℕ} 0 1 = cc in omega arith)
 
 -- The answer and the output of placing, where reading gave no number above 7.
 module _ (read m : ℕ) (low : read ≤ 7) (M : Steps) (ks out : List ℕ) where
@@ -216,3 +224,9 @@ module _ (read m : ℕ) (low : read ≤ 7) (M : Steps) (ks out : List ℕ) where
     success = Iff·trans (behind-placed m M ks first) (λ e. (ready .0 (e .0), e .1, e .2), λ e. (ready .1 (e .0), e .1, e .2));
     untouched = placing-untouched _;
   }
+
+  -- Success answers the list's length and the walk's p.
+  pub placing-placed : (n : ℕ) (p : Offset) → placing argumentLimit read m M ks (length out) ≡ Placed n p
+      → (n ≡ length ks) × (p ≡ M .p (stateFrom M (M .begin) ks))
+  unfolding placing
+  placing-placed n p e = behind-says m M ks first n p e

@@ -1,5 +1,6 @@
 -- The three demands, about the definitions that the public calls' contracts cite. Each demand is a record, sentence by sentence; proofs/Demands.antt proves them.
--- s is a sheet's bytes, t a table's, ks a list of kinds, out the caller's output before a call and `after` the output afterwards.
+-- s is a sheet's bytes, t a table's, ks a list of kinds, out the caller's output before a call and `after` the output afterwards. How to read a line: `A ↔ B` is A exactly
+-- when B, `A × B` A and B, `A ⊎ B` A or B, `A → ⊥` not A; `(x : T) → A` is A for every x, `A → B` B where A holds; `getD l i d` is what stands at i in l.
 use Prim.Native.Nat.{ℕ, _-_, _*_, _≤_, _<_}
 use mathlib.Core.Path.{_≡_}
 use mathlib.Core.Logic.{_⊎_, _↔_}
@@ -104,6 +105,13 @@ pub record Demand1 : Type 0 where
   pub p-by-rules : (s ks : List ℕ) (room n : ℕ) (p : Offset) → placeByRules argumentLimit s ks room ≡ Placed n p → p .0 ≤ 31600
   pub p-by-table : (t ks : List ℕ) (room n : ℕ) (p : Offset) → placeByTable stateLimit argumentLimit t ks room ≡ Placed n p → p .0 ≤ 31600
 
+-- A list of the kinds of a sheet, and of a table: each kind number is below m.
+abbrev pub OfSheet : List ℕ → List ℕ → Type 0
+OfSheet s ks = KindsBelow (sheetOf s .head .kinds) ks
+
+abbrev pub OfTable : List ℕ → List ℕ → Type 0
+OfTable t ks = KindsBelow (tableOf t .head .kinds) ks
+
 -- ---- Demand 2. 'A placement is the one that 01's rules give, argument by argument, down to the byte. A table built from a sheet gives that same placement, or stops
 -- at the same argument, for every list of kinds of any length.'
 
@@ -118,40 +126,52 @@ rulesStop s ks = stopFrom (byRules (sheetOf s)) (byRules (sheetOf s) .begin) ks
 abbrev pub tableStop : List ℕ → List ℕ → ℕ
 tableStop t ks = stopFrom (byTable (tableOf t) t) (byTable (tableOf t) t .begin) ks
 
--- A list that was placed: the record of each argument is that of the place that the rules give it, and the bytes behind the records are left.
-pub record DownToTheByte (s ks out after : List ℕ) : Type 0 where
+-- Where the walk by the rules ends: p behind the list.
+abbrev pub rulesP : List ℕ → List ℕ → Offset
+rulesP s ks = stateFrom (byRules (sheetOf s)) (byRules (sheetOf s) .begin) ks .p
+
+abbrev pub tableP : List ℕ → List ℕ → Offset
+tableP t ks = stateFrom (byTable (tableOf t) t) (byTable (tableOf t) t .begin) ks .p
+
+-- A list that was placed: the answer is its length and the rules' p, the record of each argument is that of the place that the rules give it, and the bytes behind the
+-- records are left.
+pub record DownToTheByte (s ks out : List ℕ) (n : ℕ) (p : Offset) (after : List ℕ) : Type 0 where
+  pub count : n ≡ length ks
+  pub final : p ≡ rulesP s ks
   pub records : (i : ℕ) → i < length ks → take recordLength (drop (recordLength * i) after) ≡ recordOf (rulesPlaceOf s ks i)
   pub others : drop (recordLength * length ks) after ≡ drop (recordLength * length ks) out
 
 -- The bytes t that building a sheet s wrote give the same places as the rules, stop where they stop and end at the same p; and the two calls give the same answer and leave the same output.
 pub record PlacesAlike (s t : List ℕ) : Type 0 where
-  pub stop : (ks : List ℕ) → KindsBelow (sheetOf s .head .kinds) ks → tableStop t ks ≡ rulesStop s ks
-  pub places : (ks : List ℕ) → KindsBelow (sheetOf s .head .kinds) ks → (i : ℕ) → i < rulesStop s ks → placeOf t ks i ≡ rulesPlaceOf s ks i
-  pub final : (ks : List ℕ) → KindsBelow (sheetOf s .head .kinds) ks → faultFrom (byRules (sheetOf s)) (byRules (sheetOf s) .begin) ks ≡ 0
-      → stateFrom (byTable (tableOf t) t) (byTable (tableOf t) t .begin) ks .p ≡ stateFrom (byRules (sheetOf s)) (byRules (sheetOf s) .begin) ks .p
+  pub stop : (ks : List ℕ) → OfSheet s ks → tableStop t ks ≡ rulesStop s ks
+  pub places : (ks : List ℕ) → OfSheet s ks → (i : ℕ) → i < rulesStop s ks → placeOf t ks i ≡ rulesPlaceOf s ks i
+  pub final : (ks : List ℕ) → OfSheet s ks → rulesStop s ks ≡ length ks → tableP t ks ≡ rulesP s ks
   pub answer : (ks : List ℕ) (room : ℕ) → placeByTable stateLimit argumentLimit t ks room ≡ placeByRules argumentLimit s ks room
   pub memory : (ks out : List ℕ) → tableMemory stateLimit argumentLimit t ks out ≡ rulesMemory argumentLimit s ks out
 
 -- Demand 2. Building wrote the first len bytes of the output.
 pub record Demand2 : Type 0 where
   pub placed : (s ks out : List ℕ) (n : ℕ) (p : Offset) → placeByRules argumentLimit s ks (length out) ≡ Placed n p
-      → DownToTheByte s ks out (rulesMemory argumentLimit s ks out)
+      → DownToTheByte s ks out n p (rulesMemory argumentLimit s ks out)
   pub built : (s out : List ℕ) (n len : ℕ) → build stateLimit s (length out) ≡ Built n len → PlacesAlike s (take len (buildMemory stateLimit s out))
 
 -- ---- Demand 3. 'A table that can be read, given room for 2N kinds, is passed exactly when no finite list of its kinds goes wrong. One that fails comes back with a list
 -- that does go wrong; no shorter list does, and no list of that length earlier in kind order does.' A list goes wrong where it is not `WellPlaced`.
 
--- The list, of the table's kinds, goes wrong, and each that is shorter, or as long and earlier, goes right.
+-- The list goes wrong, and each list of the table's kinds that is shorter, or as long and earlier, goes right.
 pub record FirstWrong (t ks : List ℕ) : Type 0 where
-  pub known : KindsBelow (tableOf t .head .kinds) ks
+  pub known : OfTable t ks
   pub wrong : WellPlaced t ks → ⊥
-  pub first : (ks′ : List ℕ) → KindsBelow (tableOf t .head .kinds) ks′ → Before ks′ ks → WellPlaced t ks′
+  pub first : (ks′ : List ℕ) → OfTable t ks′ → Before ks′ ks → WellPlaced t ks′
+
+-- The answer is clean exactly when every list goes right; or it is a fault, and the first so many bytes of the output are the first list that goes wrong.
+pub record JudgedRight (t : List ℕ) (answer : Judging) (after : List ℕ) : Type 0 where
+  pub passed : answer ≡ Clean ↔ ((ks : List ℕ) → OfTable t ks → WellPlaced t ks)
+  pub failed : (fault n : ℕ) → answer ≡ Fault fault n → FirstWrong t (take n after)
+  pub either : (answer ≡ Clean) ⊎ ((fault n : ℕ) × (answer ≡ Fault fault n))
 
 -- Demand 3, of whatever answer and output judging gives; and of 01's faults: a list has none exactly where it goes right.
 pub record Demand3 : Type 0 where
-  pub passed : (t out : List ℕ) (answer : Judging) (after : List ℕ) → tableNo stateLimit t ≡ 0 → 2 * tableOf t .states ≤ length out → Judges stateLimit t out answer after
-      → answer ≡ Clean ↔ ((ks : List ℕ) → KindsBelow (tableOf t .head .kinds) ks → WellPlaced t ks)
-  pub failed : (t out : List ℕ) (fault n : ℕ) (after : List ℕ) → Judges stateLimit t out (Fault fault n) after → FirstWrong t (take n after)
-  pub either : (t out : List ℕ) (answer : Judging) (after : List ℕ) → tableNo stateLimit t ≡ 0 → 2 * tableOf t .states ≤ length out → Judges stateLimit t out answer after
-      → (answer ≡ Clean) ⊎ ((fault n : ℕ) × (answer ≡ Fault fault n))
-  pub faults : (t ks : List ℕ) → tableNo stateLimit t ≡ 0 → KindsBelow (tableOf t .head .kinds) ks → listFault t ks ≡ 0 ↔ WellPlaced t ks
+  pub judged : (t out : List ℕ) (answer : Judging) (after : List ℕ) → tableNo stateLimit t ≡ 0 → 2 * tableOf t .states ≤ length out
+      → Judges stateLimit t out answer after → JudgedRight t answer after
+  pub faults : (t ks : List ℕ) → tableNo stateLimit t ≡ 0 → OfTable t ks → listFault t ks ≡ 0 ↔ WellPlaced t ks

@@ -1,5 +1,5 @@
--- How the answer comes together: clean where no register hits, the least list with the fault of its walk, or a refusal.
-use Prim.Native.Nat.{ℕ, _+_, _-_, _*_, _≤_, _<_}
+-- How the answer comes together: clean where no watched walk hits, the least list with the fault of its walk, or a refusal.
+use Prim.Native.Nat.{ℕ, _-_, _*_, _≤_, _<_}
 use native.Mathlib.Omega.{arith}
 use mathlib.Core.Path.{_≡_, refl, sym, _∙_}
 use mathlib.Core.List.{List, _++_}
@@ -49,13 +49,13 @@ module _ (table : Table) (t before out : List ℕ) (asks : JudgeAsks table t bef
         room = record { some = omega (arith, promised .some); bytes = asks .room; words = omega (arith, promised .states) };
       }
 
-  module _ (n : ℕ) (work : List ℕ) (best : BestIs table t before (table .head .registers + 1) n work) where
-    -- No register hits.
+  module _ (n : ℕ) (work : List ℕ) (best : BestIs table t (table .head .registers) n work) where
+    -- No watched walk hits.
     pub judge-clean : n ≡ 0 → Judges stateLimit t out Clean out
     unfolding Judges
     judge-clean z = (number, clean stateLimit t read .1 (rw (← asks .is) (best .none z)), refl)
 
-    -- Some register hits, and the least list was copied to the front of `out`.
+    -- Some watched walk hits, and the least list was copied to the front of `out`.
     module _ (some : n ≡ 0 → ⊥) (part out′ : List ℕ)
         (ep : part ≡ take (bestEnd (nodes table) - (bestEnd (nodes table) - n)) (drop (bestEnd (nodes table) - n) work))
         (eo : out′ ≡ take (length part) part ++ drop (length part) out) where
@@ -64,7 +64,7 @@ module _ (table : Table) (t before out : List ℕ) (asks : JudgeAsks table t bef
 
       long : length list ≡ n
       long =
-          length-slice (bestEnd (nodes table) - n) (bestEnd (nodes table)) work (omega (arith, best .long, asks .room))
+          length-slice (bestEnd (nodes table) - n) (bestEnd (nodes table)) work (best .room .bytes)
           ∙ omega (arith, best .short)
 
       front : out′ ≡ list ++ drop n out
@@ -85,8 +85,8 @@ module _ (table : Table) (t before out : List ℕ) (asks : JudgeAsks table t bef
       first : FirstFaulty t (listFault t list) list
       first = least-first stateLimit t read list (same (tableOf t) (asks .is) list (best .some (omega (arith, some))))
         where
-          same : (table′ : Table) → table ≡ table′ → (ks : List ℕ) → LeastBelow table t (table .head .registers + 1) ks
-              → LeastBelow table′ t (table′ .head .registers + 1) ks
+          same : (table′ : Table) → table ≡ table′ → (ks : List ℕ) → LeastBelow table t (table .head .registers) ks
+              → LeastBelow table′ t (table′ .head .registers) ks
           same table′ e ks l = rw e at l
 
       -- It can be walked,

@@ -15,6 +15,7 @@ use borrow.Author.Tests.{ltb-true, ltb-false, eq-eqb, ne-eqb}
 use Rattle.convention.specs.declared.Table.{Table}
 use Rattle.convention.specs.Explored.{Automaton, Entry, firstEntry, entry, number, meet, met}
 use Rattle.convention.proofs.Runs.{either}
+use Rattle.judging.specs.declared.steps.Watch.{Watch}
 use Rattle.judging.specs.Watched.{watched, nodes}
 use Rattle.judging.specs.Memory.{wordAt, putWord, nodeWord, pairWord, listsAt, appended, Room, MeetIs, StartIs}
 use Rattle.judging.specs.Searched.{Holds, pairOf}
@@ -43,9 +44,9 @@ module _ (X : Automaton) (e : Entry X) (s : X .Node) where
 
 -- ---- one entry appended
 
-module _ (table : Table) (t : List ℕ) (r : ℕ) where
+module _ (table : Table) (t : List ℕ) (watch : Watch) where
   abbrev walk : Automaton
-  walk = watched table t r
+  walk = watched table t watch
 
   module _ (l : List (Entry walk)) (e : Entry walk) where
     -- Its own number, and that of another node that has no entry.
@@ -57,7 +58,7 @@ module _ (table : Table) (t : List ℕ) (r : ℕ) where
     unfolding number
     number-other node n h = rw (number-new walk e node l h, ne-eqb (e .node) node (λ q. n (sym q)), number) (omega arith)
 
-    module _ (count : ℕ) (work : List ℕ) (holds : Holds table t r l count work) (known : e .node < nodes table)
+    module _ (count : ℕ) (work : List ℕ) (holds : Holds table t watch l count work) (known : e .node < nodes table)
         (new : length l ≤ number walk l (e .node)) (more : length l < nodes table) where
       -- The memory with its mark, then its node, then its pair.
       abbrev marked : List ℕ
@@ -86,7 +87,7 @@ module _ (table : Table) (t : List ℕ) (r : ℕ) where
       room-stays : Room (nodes table) after
       room-stays = record { some = holds .room .some; bytes = simp length-put (holds .room .bytes); words = holds .room .words }
 
-      holds-snoc : Holds table t r (l ++ e ∷ []) (length l + 1) after
+      holds-snoc : Holds table t watch (l ++ e ∷ []) (length l + 1) after
       holds-snoc = record {
         room = room-stays;
         counted = sym (length-append l (e ∷ []));
@@ -124,7 +125,7 @@ module _ (table : Table) (t : List ℕ) (r : ℕ) where
           ∙ drop-put work (e .node) (length l + 1) (listsAt (nodes table)) (omega arith))
 
   -- One node met: it has an entry, or gets one. The lists are left.
-  module _ (l : List (Entry walk)) (e : Entry walk) (count result : ℕ) (work after : List ℕ) (holds : Holds table t r l count work)
+  module _ (l : List (Entry walk)) (e : Entry walk) (count result : ℕ) (work after : List ℕ) (holds : Holds table t watch l count work)
       (known : e .node < nodes table) (few : length (meet walk l e) ≤ nodes table)
       (is : MeetIs (nodes table) work count (e .node) (pairOf e) result after) where
     there : number walk l (e .node) < length l → (result ≡ count) × (after ≡ work)
@@ -137,7 +138,7 @@ module _ (table : Table) (t : List ℕ) (r : ℕ) where
     unfolding meet
     room-new q = omega (arith, rw (q, meet, length-append) at few)
 
-    pub holds-meet : Holds table t r (meet walk l e) result after
+    pub holds-meet : Holds table t watch (meet walk l e) result after
     unfolding meet
     holds-meet = elim (either (ltb (number walk l (e .node)) (length l))) [
       | inl q ↦ let (same, left) = there (ltb-true _ _ q) in rw (q, meet, same, left) holds
@@ -157,7 +158,7 @@ module _ (table : Table) (t : List ℕ) (r : ℕ) where
 
   -- The start met where every mark is 0.
   module _ (before after : List ℕ) (room : Room (nodes table) before) (is : StartIs (nodes table) before after) where
-    none : Holds table t r [] 0 (is .cleared)
+    none : Holds table t watch [] 0 (is .cleared)
     none = record {
       room = record { some = room .some; bytes = rw (is .clears .long) (room .bytes); words = room .words };
       counted = refl;
@@ -168,11 +169,11 @@ module _ (table : Table) (t : List ℕ) (r : ℕ) where
       pair = λ i h. absurd (omega arith);
     }
 
-    one : Holds table t r (met walk 0) (is .count) after
+    one : Holds table t watch (met walk 0) (is .count) after
     unfolding met meet number
     one = holds-meet [] (firstEntry walk) 0 (is .count) (is .cleared) after none (room .some) (room .some) (is .meets)
 
-    pub holds-start : Holds table t r (met walk 0) 1 after
+    pub holds-start : Holds table t watch (met walk 0) 1 after
     unfolding met
     holds-start = rw (one .counted) at one
 

@@ -14,21 +14,22 @@ use Rattle.convention.specs.Orders.{NotAfter}
 use Rattle.convention.specs.Promised.{TableRead}
 use Rattle.convention.proofs.Shortlex.{not-after-trans, not-after-snoc}
 use Rattle.convention.proofs.Exploring.{Sooner, leads, earliest, sooner-before, path-short}
+use Rattle.judging.specs.declared.steps.Watch.{Watch}
 use Rattle.judging.specs.Watched.{watched, nodes, scan, Hit, FirstHit, NoHit, hitList}
 use Rattle.judging.proofs.Watched.{EndsFaulty, watched-decides, nodes-few}
 
-module _ (table : Table) (t : List ℕ) (r : ℕ) where
+module _ (table : Table) (t : List ℕ) (watch : Watch) where
   -- The list of a hit ends faulty.
-  pub hit-ends : (i k : ℕ) → Hit table t r i k → EndsFaulty table t r (path (watched table t r) (scan table t r) i) k
+  pub hit-ends : (i k : ℕ) → Hit table t watch i k → EndsFaulty table t watch (path (watched table t watch) (scan table t watch) i) k
   hit-ends i k h = record {
-    node = entry (watched table t r) (scan table t r) i .node;
-    leads = leads (watched table t r) (watched-decides table t r) (nodes table) i (h .inside);
+    node = entry (watched table t watch) (scan table t watch) i .node;
+    leads = leads (watched table t watch) (watched-decides table t watch) (nodes table) i (h .inside);
     below = h .below;
     faulty = h .faulty;
   }
 
   -- Every other hit comes later in the scan than the first.
-  hits-later : (i k : ℕ) → FirstHit table t r i k → (j q : ℕ) → Hit table t r j q → ((i ≡ j) × (k ≡ q)) ⊎ Sooner i k j q
+  hits-later : (i k : ℕ) → FirstHit table t watch i k → (j q : ℕ) → Hit table t watch j q → ((i ≡ j) × (k ≡ q)) ⊎ Sooner i k j q
   hits-later i k f j q h = elim (decLt j i) [
     | yes l ↦ absurd (f .earlier j q l h)
     | no l ↦ elim (eq-or-lt-of-le {n = i} {m = j} (omega arith)) [
@@ -41,35 +42,35 @@ module _ (table : Table) (t : List ℕ) (r : ℕ) where
   ]
 
   -- So its list is not before that of the first.
-  lists-later : (i k : ℕ) → FirstHit table t r i k → (j q : ℕ) → Hit table t r j q → NotAfter (hitList table t r i k) (hitList table t r j q)
+  lists-later : (i k : ℕ) → FirstHit table t watch i k → (j q : ℕ) → Hit table t watch j q → NotAfter (hitList table t watch i k) (hitList table t watch j q)
   lists-later i k f j q h = elim (hits-later i k f j q h) [
     | inl e ↦ inl (rw (e .0, e .1))
-    | inr o ↦ inr (sooner-before (watched table t r) (watched-decides table t r) (nodes table) i k j q (h .inside) o)
+    | inr o ↦ inr (sooner-before (watched table t watch) (watched-decides table t watch) (nodes table) i k j q (h .inside) o)
   ]
 
-module _ (limit : ℕ) (table : Table) (t : List ℕ) (read : TableRead limit table t) (r : ℕ) where
+module _ (limit : ℕ) (table : Table) (t : List ℕ) (read : TableRead limit table t) (watch : Watch) where
   -- The scan is whole.
-  whole : length (scan table t r) ≤ nodes table
-  whole = nodes-few limit table t read r (nodes table)
+  whole : length (scan table t watch) ≤ nodes table
+  whole = nodes-few limit table t read watch (nodes table)
 
   -- The list of a hit has at most 2N kinds.
-  pub hit-short : (i k : ℕ) → Hit table t r i k → length (hitList table t r i k) ≤ nodes table
+  pub hit-short : (i k : ℕ) → Hit table t watch i k → length (hitList table t watch i k) ≤ nodes table
   hit-short i k h =
-      let short = path-short (watched table t r) (watched-decides table t r) (nodes table) i (h .inside) in
+      let short = path-short (watched table t watch) (watched-decides table t watch) (nodes table) i (h .inside) in
       rw length-append (omega (arith, short, whole, h .inside))
 
   -- A list that ends faulty has a hit whose list is not after it.
-  pub ends-hit : (ks : List ℕ) (k : ℕ) → EndsFaulty table t r ks k
-      → (i : ℕ) × Hit table t r i k × NotAfter (hitList table t r i k) (ks ++ k ∷ [])
+  pub ends-hit : (ks : List ℕ) (k : ℕ) → EndsFaulty table t watch ks k
+      → (i : ℕ) × Hit table t watch i k × NotAfter (hitList table t watch i k) (ks ++ k ∷ [])
   ends-hit ks k f =
-      let (i, inside, node, n) = earliest (watched table t r) (watched-decides table t r) (nodes table) whole ks (f .node) (f .leads) in
+      let (i, inside, node, n) = earliest (watched table t watch) (watched-decides table t watch) (nodes table) whole ks (f .node) (f .leads) in
       (i, record { inside = inside; below = f .below; faulty = rw node (f .faulty) }, not-after-snoc _ ks k n)
 
   -- So the first hit's list is not after any list that ends faulty,
-  pub first-hit : (i k : ℕ) → FirstHit table t r i k → (ks : List ℕ) (q : ℕ) → EndsFaulty table t r ks q
-      → NotAfter (hitList table t r i k) (ks ++ q ∷ [])
-  first-hit i k f ks q e = let (j, h, n) = ends-hit ks q e in not-after-trans _ _ _ (lists-later table t r i k f j q h) n
+  pub first-hit : (i k : ℕ) → FirstHit table t watch i k → (ks : List ℕ) (q : ℕ) → EndsFaulty table t watch ks q
+      → NotAfter (hitList table t watch i k) (ks ++ q ∷ [])
+  first-hit i k f ks q e = let (j, h, n) = ends-hit ks q e in not-after-trans _ _ _ (lists-later table t watch i k f j q h) n
 
   -- and where nothing hits no list ends faulty.
-  pub no-hit : NoHit table t r → (ks : List ℕ) (k : ℕ) → EndsFaulty table t r ks k → ⊥
+  pub no-hit : NoHit table t watch → (ks : List ℕ) (k : ℕ) → EndsFaulty table t watch ks k → ⊥
   no-hit none ks k e = let (i, h, n) = ends-hit ks k e in none i k h

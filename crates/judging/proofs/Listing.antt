@@ -186,7 +186,7 @@ module _ (nodes : ℕ) (before : List ℕ) (found : ℕ) (asks : ListAsks nodes 
   long-list = length-slice (foundEnd nodes - found) (foundEnd nodes) before (omega (arith, asks .room .bytes)) ∙ omega (arith, asks .short)
 
   -- Once it is kept the best is that list.
-  kept-list : listAt (kept nodes before found) (bestEnd nodes) found ≡ list
+  pub kept-list : listAt (kept nodes before found) (bestEnd nodes) found ≡ list
   kept-list =
       let front : 8 * nodes - found ≤ length before = omega (arith, asks .room .bytes) in
       let end : 8 * nodes ≡ 8 * nodes - found + found = omega (arith, asks .short) in

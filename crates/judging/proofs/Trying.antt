@@ -108,17 +108,6 @@ module _ (limit : ℕ) (t : List ℕ) (read : TableRead limit (tableOf t) t) whe
       let (ks′, (known, faulty), short) = bound limit t read ks f in
       omega (arith, short-all t _ (n .none) ks′ (known, short))
 
-  -- So the verdict by trying is right: clean where it says so, and otherwise its list is the first faulty list.
-  pub trying-clean : verdictByTrying t .answer ≡ Clean → CleanTable t
-  trying-clean e = elim (tried t) [ inl n ↦ none-clean n | inr o ↦ absurd (let z : _≡_ {A = ℕ} 0 1 = cc (e, o .answer) in omega arith) ]
-
-  pub trying-fault : (fault n : ℕ) → verdictByTrying t .answer ≡ Fault fault n
-      → FirstFaulty t fault (verdictByTrying t .list) × (n ≡ length (verdictByTrying t .list))
-  trying-fault fault n e = elim (tried t) [
-    | inl c ↦ absurd (let z : _≡_ {A = ℕ} 0 1 = cc (e, c .answer) in omega arith)
-    | inr o ↦ let says : fault ≡ listFault t (verdictByTrying t .list) = cc (e, o .answer) in (rw says (one-first t o), cc (e, o .answer))
-  ]
-
 -- Judging may give that answer, with the list in the first bytes and the others left,
 pub trying-judges : (limit : ℕ) (t out : List ℕ) → judgeNo limit t (length out) ≡ 0
     → Judges limit t out (verdictByTrying t .answer) (verdictByTrying t .list ++ drop (length (verdictByTrying t .list)) out)

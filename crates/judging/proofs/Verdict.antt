@@ -1,6 +1,6 @@
--- Why the least of the first hits' lists is the verdict: a faulty list has a front that ends faulty in the watched walk of some register, the first
--- hit of that register has a list that is not after it, and every hit's list is faulty.
-use Prim.Native.Nat.{ℕ, suc, _+_, _≤_, _<_}
+-- Why the least of the first hits' lists is the verdict: a faulty list has a front that ends faulty in some watched walk, the first hit of that walk
+-- has a list that is not after it, and every hit's list is faulty.
+use Prim.Native.Nat.{ℕ, suc, _+_, _≤_}
 use native.Mathlib.Nat.{eq-or-lt-of-le}
 use native.Mathlib.Omega.{arith}
 use mathlib.Core.Path.{_≡_, refl}
@@ -16,7 +16,8 @@ use Rattle.convention.specs.Judged.{listFault, FaultyList, CleanTable, FirstFau
 use Rattle.convention.specs.Promised.{TableRead}
 use Rattle.convention.proofs.Lists.{below-at}
 use Rattle.convention.proofs.Shortlex.{not-after-trans, not-after-strict}
-use Rattle.judging.specs.Watched.{Hit, hitList, NoHitBelow, LeastBelow}
+use Rattle.judging.specs.declared.steps.Watch.{Watch}
+use Rattle.judging.specs.Watched.{Hit, hitList, WatchedBelow, NoHitBelow, LeastBelow}
 use Rattle.judging.proofs.Fronts.{below-take, front-before, front-not-after, stops, stop-faulty}
 use Rattle.judging.proofs.Watched.{EndsFaulty, some-watches, watched-faulty}
 use Rattle.judging.proofs.Hits.{hit-ends, hit-short, ends-hit, first-hit, no-hit}
@@ -25,13 +26,13 @@ use Rattle.judging.proofs.Hits.{hit-ends, hit-short, ends-hit, first-hi
 abbrev pub stopOf : List ℕ → List ℕ → ℕ
 stopOf t ks = stopFrom (byTable (tableOf t) t) (byTable (tableOf t) t .begin) ks
 
--- A register that tells of ks: in its watched walk a list that is not after ks ends faulty.
+-- What tells of ks where it is watched: in that walk a list that is not after ks ends faulty.
 record Watcher (t ks : List ℕ) : Type 0 where
-  register : ℕ
-  among : register < tableOf t .head .registers + 1
+  watch : Watch
+  among : WatchedBelow (tableOf t .head .registers) watch
   front : List ℕ
   kind : ℕ
-  ends : EndsFaulty (tableOf t) t register front kind
+  ends : EndsFaulty (tableOf t) t watch front kind
   not-after : NotAfter (front ++ kind ∷ []) ks
 
 module _ (limit : ℕ) (t : List ℕ) (read : TableRead limit (tableOf t) t) where
@@ -43,10 +44,10 @@ module _ (limit : ℕ) (t : List ℕ) (read : TableRead limit (tableOf t) t) whe
       let s = stops (byTable (tableOf t) t) _ ks faulty in
       let front = below-take (tableOf t .head .kinds) n ks known in
       let kind = below-at (tableOf t .head .kinds) ks known n (s .inside) in
-      let (r, among, ends) = some-watches limit (tableOf t) t read (take n ks) (getD ks n 0) front kind (s .clean) (s .faulty) in
+      let (watch, among, ends) = some-watches limit (tableOf t) t read (take n ks) (getD ks n 0) front kind (s .clean) (s .faulty) in
       record {
-        register = r;
-        among = omega arith;
+        watch = watch;
+        among = among;
         front = take n ks;
         kind = getD ks n 0;
         ends = ends;
@@ -54,43 +55,43 @@ module _ (limit : ℕ) (t : List ℕ) (read : TableRead limit (tableOf t) t) whe
       }
 
   -- The list of a hit is faulty.
-  hit-faulty : (r i k : ℕ) → Hit (tableOf t) t r i k → FaultyList t (hitList (tableOf t) t r i k)
+  hit-faulty : (watch : Watch) (i k : ℕ) → Hit (tableOf t) t watch i k → FaultyList t (hitList (tableOf t) t watch i k)
   unfolding FaultyList
-  hit-faulty r i k h = watched-faulty limit (tableOf t) t read r _ k (hit-ends (tableOf t) t r i k h)
+  hit-faulty watch i k h = watched-faulty limit (tableOf t) t read watch _ k (hit-ends (tableOf t) t watch i k h)
 
   -- 'If any faulty list exists, one of at most 2N arguments does.'
   pub bound : (ks : List ℕ) → FaultyList t ks → (ks′ : List ℕ) × FaultyList t ks′ × (length ks′ ≤ judgeRoom t)
   bound ks f =
       let w = faulty-watched ks f in
-      let (i, h, _) = ends-hit limit (tableOf t) t read (w .register) (w .front) (w .kind) (w .ends) in
-      (_, hit-faulty (w .register) i (w .kind) h, hit-short limit (tableOf t) t read (w .register) i (w .kind) h)
+      let (i, h, _) = ends-hit limit (tableOf t) t read (w .watch) (w .front) (w .kind) (w .ends) in
+      (_, hit-faulty (w .watch) i (w .kind) h, hit-short limit (tableOf t) t read (w .watch) i (w .kind) h)
 
-  -- A table is clean exactly where no register hits.
-  pub clean : CleanTable t ↔ NoHitBelow (tableOf t) t (tableOf t .head .registers + 1)
+  -- A table is clean exactly where no watched walk hits.
+  pub clean : CleanTable t ↔ NoHitBelow (tableOf t) t (tableOf t .head .registers)
   unfolding CleanTable
-  clean = (λ c r _ i k h. c _ (hit-faulty r i k h), none)
+  clean = (λ c watch _ i k h. c _ (hit-faulty watch i k h), none)
     where
-      none : NoHitBelow (tableOf t) t (tableOf t .head .registers + 1) → (ks : List ℕ) → FaultyList t ks → ⊥
+      none : NoHitBelow (tableOf t) t (tableOf t .head .registers) → (ks : List ℕ) → FaultyList t ks → ⊥
       none n ks f =
           let w = faulty-watched ks f in
-          no-hit limit (tableOf t) t read (w .register) (n (w .register) (w .among)) (w .front) (w .kind) (w .ends)
+          no-hit limit (tableOf t) t read (w .watch) (n (w .watch) (w .among)) (w .front) (w .kind) (w .ends)
 
   -- The least of the first hits' lists is not after any faulty list;
-  least-not-after : (ks : List ℕ) → LeastBelow (tableOf t) t (tableOf t .head .registers + 1) ks
+  least-not-after : (ks : List ℕ) → LeastBelow (tableOf t) t (tableOf t .head .registers) ks
       → (ks′ : List ℕ) → FaultyList t ks′ → NotAfter ks ks′
   least-not-after ks l ks′ f =
       let w = faulty-watched ks′ f in
-      elim (l .least (w .register) (w .among)) [
-        | inl none ↦ absurd (no-hit limit (tableOf t) t read (w .register) none (w .front) (w .kind) (w .ends))
+      elim (l .least (w .watch) (w .among)) [
+        | inl none ↦ absurd (no-hit limit (tableOf t) t read (w .watch) none (w .front) (w .kind) (w .ends))
         | inr (i, k, h, n) ↦
-            let first = first-hit limit (tableOf t) t read (w .register) i k h (w .front) (w .kind) (w .ends) in
+            let first = first-hit limit (tableOf t) t read (w .watch) i k h (w .front) (w .kind) (w .ends) in
             not-after-trans _ _ _ n (not-after-trans _ _ _ first (w .not-after))
       ]
 
   -- so it is the verdict's list,
-  pub least-first : (ks : List ℕ) → LeastBelow (tableOf t) t (tableOf t .head .registers + 1) ks → FirstFaulty t (listFault t ks) ks
+  pub least-first : (ks : List ℕ) → LeastBelow (tableOf t) t (tableOf t .head .registers) ks → FirstFaulty t (listFault t ks) ks
   least-first ks l = record {
-    faulty = let (r, i, k, h, e) = l .found in rw e (hit-faulty r i k h);
+    faulty = let (watch, i, k, h, e) = l .found in rw e (hit-faulty watch i k h);
     says = refl;
     first = λ ks′ f. not-after-strict ks ks′ (least-not-after ks l ks′ f);
   }

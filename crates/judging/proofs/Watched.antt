@@ -1,12 +1,12 @@
--- Why one register at a time is enough. While the walk by a table has no fault, the watched walk of every register r is at the same state and knows
--- whether r was given; a step without a fault has none in any watched walk, and a step with one has one in the watched walk of some register.
-use Prim.Native.Nat.{ℕ, zero, suc, _+_, _*_, _%_, _≤_, _<_}
+-- Why it is enough to watch nothing, and one register at a time. While the walk by a table has no fault, every watched walk is at the same state and
+-- knows whether what it watches was given; a step without a fault has none in any watched walk, and a step with one has one in some watched walk.
+use Prim.Native.Nat.{ℕ, _+_, _*_, _%_, _≤_, _<_}
 use native.Mathlib.Nat.{eq-zero-or-pos}
 use native.Mathlib.Decide.{decLt}
 use native.Mathlib.Omega.{arith}
-use mathlib.Core.Path.{_≡_, refl, ap, _∙_}
+use mathlib.Core.Path.{_≡_, refl, sym, ap, _∙_}
 use mathlib.Core.Logic.{inl, inr}
-use mathlib.Core.Bool.{Bool, true, false, cond, or-false}
+use mathlib.Core.Bool.{Bool, true, false, cond, _&&_, _||_, and-false, or-false, false≢true}
 use mathlib.Core.List.{List, [], _∷_, _++_}
 use lib.Dec.{eqb, lit<}
 use lib.ListN.{length, getD, getD-replicate, List·getD-eq-default}
@@ -16,11 +16,11 @@ use Rattle.convention.specs.declared.TableKind.{TableKind}
 use Rattle.convention.specs.declared.Table.{Table}
 use Rattle.convention.specs.declared.Transition.{Transition}
 use Rattle.convention.specs.declared.ByTable.{ByTable}
-use Rattle.convention.specs.Numbers.{orElse}
+use Rattle.convention.specs.Numbers.{unless}
 use Rattle.convention.specs.Tables.{tableKind, transition}
 use Rattle.convention.specs.Rules.{freeRun, markRun, noRegisters}
 use Rattle.convention.specs.Lists.{faultFrom, stateFrom}
-use Rattle.convention.specs.Walked.{registersFault, tableFault, tableAfter, byTable}
+use Rattle.convention.specs.Walked.{tableFault, tableAfter, byTable}
 use Rattle.convention.specs.Explored.{Automaton, entry, met, Leads}
 use Rattle.convention.specs.Judged.{KindsBelow}
 use Rattle.convention.specs.Promised.{TableRead}
@@ -30,48 +30,71 @@ use Rattle.convention.proofs.Runs.{either, free-some}
 use Rattle.convention.proofs.Lists.{holds-along}
 use Rattle.convention.proofs.Exploring.{Decides, leads-unique, met-holds, few}
 use Rattle.walking.proofs.Given.{Walking, begin-walking, step-walking}
-use Rattle.judging.specs.Watched.{nodeOf, nodeState, nodeFlag, watchedRegistersFault, watchedFault, watchedGiven}
-use Rattle.judging.specs.Watched.{nodeFault, nodeAfter, watched, nodes}
+use Rattle.judging.specs.declared.steps.Watch.{Watch}
+use Rattle.judging.specs.declared.steps.Watch.the-variants.{Register, Nothing}
+use Rattle.judging.specs.Watched.{nodeOf, nodeState, nodeFlag, givesWatched, watchedFault}
+use Rattle.judging.specs.Watched.{nodeFault, nodeAfter, watched, nodes, WatchedBelow}
 use Rattle.judging.proofs.Runs.{free-watched, in-run, mark-at}
 use Rattle.judging.proofs.Fronts.{below-snoc, snoc-faulty}
 
 -- ---- one step
 
--- What a later test gives is given, whatever an earlier one gives.
-or-some : (a b : ℕ) → 0 < b → 0 < orElse a b
-or-some zero b p = p
-or-some (suc a) b p = omega arith
+-- Before the first argument no register is given, and every run is free.
+none-given : (r : ℕ) → getD noRegisters r false ≡ false
+none-given r = elim (decLt r 16) [
+  | yes h ↦ getD-replicate 16 r false false h
+  | no h ↦ List·getD-eq-default noRegisters false {n = r} (omega arith)
+]
+
+all-free : (first count : ℕ) → freeRun noRegisters first count ≡ true
+all-free first count = elim (either (freeRun noRegisters first count)) [
+  | inl e ↦ e
+  | inr e ↦ let (r, _, _, given) = free-some noRegisters first count e in absurd (false≢true (sym (none-given r) ∙ given))
+]
+
+-- Whether what is watched is among the given registers.
+abbrev pub amongGiven : List Bool → Watch → Bool
+amongGiven given (Register r) = getD given (r .0) false
+amongGiven given Nothing = false
 
 module _ (h : Head) (kind : TableKind) (x : Transition) (given : List Bool) where
-  -- A step without a fault has none as far as any one register tells,
-  step-clean : (r : ℕ) → tableFault h kind x given ≡ 0 → watchedFault h kind x r (getD given r false) ≡ 0
-  unfolding tableFault watchedFault
-  step-clean r e = elim (either (eqb (x .form) 1)) [
-    | inl f ↦ rw f (registers (rw f at e))
+  -- A step without a fault gives nothing that is watched once more, and has none where nothing was given,
+  gives-new : (watch : Watch) → tableFault h kind x given ≡ 0 → amongGiven given watch && givesWatched x watch ≡ false
+  unfolding tableFault givesWatched
+  gives-new Nothing e = refl
+  gives-new (Register r) e = elim (either (eqb (x .form) 1)) [
+    | inl f ↦ rw f (free-watched given (x .a) (x .b) (unless-zero _ 2 (lit< tt) (or-zero _ _ (rw f at e) .0)) r)
+    | inr f ↦ rw (f, and-false)
+  ]
+
+  clean-first : tableFault h kind x given ≡ 0 → tableFault h kind x noRegisters ≡ 0
+  unfolding tableFault
+  clean-first e = elim (either (eqb (x .form) 1)) [
+    | inl f ↦ rw (f, all-free (x .a) (x .b)) (or-zero (unless (freeRun given (x .a) (x .b)) 2) _ (rw f at e) .1)
     | inr f ↦ rw f (rw f at e)
   ]
-    where
-      registers : registersFault h kind x given ≡ 0 → watchedRegistersFault h kind x r (getD given r false) ≡ 0
-      registers e =
-          let both = or-zero _ _ e in
-          rw (free-watched given (x .a) (x .b) (unless-zero _ 2 (lit< tt) (both .0)) r) (both .1)
 
-  -- so one that is faulty as far as one register tells is faulty.
-  step-faulty : (r : ℕ) → 0 < watchedFault h kind x r (getD given r false) → 0 < tableFault h kind x given
-  step-faulty r f = elim (eq-zero-or-pos (tableFault h kind x given)) [ inl e ↦ absurd (omega (arith, step-clean r e)) | inr p ↦ p ]
+  -- so it has none in any watched walk,
+  step-clean : (watch : Watch) → tableFault h kind x given ≡ 0 → watchedFault h kind x (amongGiven given watch && givesWatched x watch) ≡ 0
+  unfolding watchedFault
+  step-clean watch e = rw (gives-new watch e) (clean-first e)
 
-  -- A step with a fault has one as far as some register tells: one of its run that was given, or else n.
+  -- and one that is faulty in a watched walk is faulty.
+  step-faulty : (watch : Watch) → 0 < watchedFault h kind x (amongGiven given watch && givesWatched x watch) → 0 < tableFault h kind x given
+  step-faulty watch f = elim (eq-zero-or-pos (tableFault h kind x given)) [ inl e ↦ absurd (omega (arith, step-clean watch e)) | inr p ↦ p ]
+
+  -- A step with a fault has one in some watched walk: that of a register of its run that was given, or else that of nothing.
   step-watched : (x .form ≡ 1 → x .a + x .b ≤ h .registers) → 0 < tableFault h kind x given
-      → (r : ℕ) × (r ≤ h .registers) × (0 < watchedFault h kind x r (getD given r false))
-  unfolding tableFault watchedFault
+      → (watch : Watch) × WatchedBelow (h .registers) watch × (0 < watchedFault h kind x (amongGiven given watch && givesWatched x watch))
+  unfolding tableFault watchedFault givesWatched WatchedBelow
   step-watched within p = elim (either (eqb (x .form) 1)) [
     | inl f ↦ elim (either (freeRun given (x .a) (x .b))) [
-      | inl free ↦ let count = rw (f, free) at p in (h .registers, omega arith, rw f (search or-some))
+      | inl free ↦ (Nothing, tt, rw (f, all-free (x .a) (x .b)) (rw (f, free) at p))
       | inr taken ↦
           let (r, from, to, was) = free-some given (x .a) (x .b) taken in
-          (r, omega (arith, within (eqb-true _ 1 f)), rw (f, was, in-run _ _ r from to) (lit< tt))
+          (Register (record { 0 = r }), omega (arith, within (eqb-true _ 1 f)), rw (was, f, in-run _ _ (record { 0 = r }) from to) (lit< tt))
     ]
-    | inr f ↦ (h .registers, omega arith, rw f (rw f at p))
+    | inr f ↦ (Nothing, tt, rw f (rw f at p))
   ]
 
 -- What a step gives: the registers of its run.
@@ -83,11 +106,12 @@ step-gives h x s = elim (either (eqb (x .form) 1)) [
   | inr f ↦ elim (either (eqb (x .form) 2)) [ inl g ↦ rw (f, g) | inr g ↦ rw (f, g) ]
 ]
 
--- Whether r is among the given afterwards is what the watched walk of r says.
-given-after : (h : Head) (x : Transition) (s : ByTable) → (x .form ≡ 1 → x .a + x .b ≤ length (s .given)) → (r : ℕ)
-    → watchedGiven x r (getD (s .given) r false) ≡ getD (tableAfter h x s .given) r false
-unfolding watchedGiven
-given-after h x s within r = rw (step-gives h x s) (elim (either (eqb (x .form) 1)) [
+-- Whether what is watched is among the given afterwards is what the watched walk says.
+given-after : (h : Head) (x : Transition) (s : ByTable) → (x .form ≡ 1 → x .a + x .b ≤ length (s .given)) → (watch : Watch)
+    → amongGiven (s .given) watch || givesWatched x watch ≡ amongGiven (tableAfter h x s .given) watch
+unfolding givesWatched
+given-after h x s within Nothing = refl
+given-after h x s within (Register r) = rw (step-gives h x s) (elim (either (eqb (x .form) 1)) [
   | inl f ↦ rw (f, mark-at (s .given) (x .a) (x .b) r (within (eqb-true _ 1 f)))
   | inr f ↦ rw (f, or-false)
 ])
@@ -95,8 +119,8 @@ given-after h x s within r = rw (step-gives h x s) (elim (either (eqb (x .form) 
 -- ---- nodes
 
 -- The test of two nodes tells whether they are the same.
-pub watched-decides : (table : Table) (t : List ℕ) (r : ℕ) → Decides (watched table t r)
-watched-decides table t r = record { same-eq = eqb-true; same-refl = λ a. eq-eqb a a refl }
+pub watched-decides : (table : Table) (t : List ℕ) (watch : Watch) → Decides (watched table t watch)
+watched-decides table t watch = record { same-eq = eqb-true; same-refl = λ a. eq-eqb a a refl }
 
 -- A node keeps its state and its flag, and is below 2N where its state is below N.
 node-state : (state : ℕ) (flag : Bool) → nodeState (nodeOf state flag) ≡ state
@@ -111,27 +135,25 @@ node-below : (state : ℕ) (flag : Bool) (n : ℕ) → state < n → nodeOf stat
 node-below state true n h = omega arith
 node-below state false n h = omega arith
 
--- Where the watched walk of r is while the walk by the table is at s: at the same state, with the flag that r was given.
-abbrev pub nodeAt : ℕ → ByTable → ℕ
-nodeAt r s = nodeOf (s .state) (getD (s .given) r false)
+-- Where a watched walk is while the walk by the table is at s: at the same state, with the flag that what it watches was given.
+abbrev pub nodeAt : Watch → ByTable → ℕ
+nodeAt watch s = nodeOf (s .state) (amongGiven (s .given) watch)
 
--- The fault there is that of the step, as far as r tells; and so is the node after it that of the state after it.
-node-fault : (table : Table) (t : List ℕ) (r : ℕ) (s : ByTable) (k : ℕ) → nodeFault table t r (nodeAt r s) k
-    ≡ watchedFault (table .head) (tableKind table k) (transition table t (s .state) k) r (getD (s .given) r false)
+-- The fault there is that of the step, as far as what is watched tells; and so is the node after it that of the state after it.
+node-fault : (table : Table) (t : List ℕ) (watch : Watch) (s : ByTable) (k : ℕ) → nodeFault table t watch (nodeAt watch s) k
+    ≡ watchedFault (table .head) (tableKind table k) (transition table t (s .state) k) (amongGiven (s .given) watch && givesWatched (transition table t (s .state) k) watch)
 unfolding nodeFault
-node-fault table t r s k = rw (node-state, node-flag)
+node-fault table t watch s k = rw (node-state, node-flag)
 
-node-after : (h : Head) (x : Transition) (s : ByTable) → (x .form ≡ 1 → x .a + x .b ≤ length (s .given)) → (r : ℕ)
-    → nodeOf (x .next) (watchedGiven x r (getD (s .given) r false)) ≡ nodeAt r (tableAfter h x s)
+node-after : (h : Head) (x : Transition) (s : ByTable) → (x .form ≡ 1 → x .a + x .b ≤ length (s .given)) → (watch : Watch)
+    → nodeOf (x .next) (amongGiven (s .given) watch || givesWatched x watch) ≡ nodeAt watch (tableAfter h x s)
 unfolding tableAfter
-node-after h x s within r = ap (nodeOf (x .next)) (given-after h x s within r)
+node-after h x s within watch = ap (nodeOf (x .next)) (given-after h x s within watch)
 
--- At first no register is given.
-pub none-given : (r : ℕ) → getD noRegisters r false ≡ false
-none-given r = elim (decLt r 16) [
-  | yes h ↦ getD-replicate 16 r false false h
-  | no h ↦ List·getD-eq-default noRegisters false {n = r} (omega arith)
-]
+-- At first nothing that is watched is given.
+none-among : (watch : Watch) → amongGiven noRegisters watch ≡ false
+none-among (Register r) = none-given (r .0)
+none-among Nothing = refl
 
 -- ---- the two walks
 
@@ -142,12 +164,12 @@ walkFault table t ks = faultFrom (byTable table t) (byTable table t .begin) ks
 abbrev pub walkEnd : Table → List ℕ → List ℕ → ByTable
 walkEnd table t ks = stateFrom (byTable table t) (byTable table t .begin) ks
 
--- In the watched walk of r the list ks leads to a node where kind k is faulty.
-pub record EndsFaulty (table : Table) (t : List ℕ) (r : ℕ) (ks : List ℕ) (k : ℕ) : Type 0 where
+-- In the watched walk the list ks leads to a node where kind k is faulty.
+pub record EndsFaulty (table : Table) (t : List ℕ) (watch : Watch) (ks : List ℕ) (k : ℕ) : Type 0 where
   pub node : ℕ
-  pub leads : Leads (watched table t r) 0 ks node
+  pub leads : Leads (watched table t watch) 0 ks node
   pub below : k < table .head .kinds
-  pub faulty : 0 < nodeFault table t r node k
+  pub faulty : 0 < nodeFault table t watch node k
 
 -- A list that leads somewhere is one of known kinds.
 leads-below : (X : Automaton) (s : X .Node) (ks : List ℕ) (u : X .Node) → Leads X s ks u → KindsBelow (X .kinds) ks
@@ -161,71 +183,71 @@ module _ (limit : ℕ) (table : Table) (t : List ℕ) (read : TableRead limit ta
     next-known : transition table t state k .next < table .states
     next-known = transition-next (table .head) (table .states) (transition table t state k) (read .transition state k known below) (read .some)
 
-    pub run-within : transition table t state k .form ≡ 1
+    run-within : transition table t state k .form ≡ 1
         → transition table t state k .a + transition table t state k .b ≤ table .head .registers
     run-within = transition-registers (table .head) (table .states) (transition table t state k) (read .transition state k known below)
 
   -- A step leads to a node below 2N,
-  pub after-below : (r node k : ℕ) → node < nodes table → k < table .head .kinds → nodeAfter table t r node k < nodes table
+  pub after-below : (watch : Watch) (node k : ℕ) → node < nodes table → k < table .head .kinds → nodeAfter table t watch node k < nodes table
   unfolding nodeAfter
-  after-below r node k h below = node-below _ (watchedGiven _ r _) (table .states) (next-known (nodeState node) k (omega arith) below)
+  after-below watch node k h below = node-below _ (nodeFlag node || givesWatched _ watch) (table .states) (next-known (nodeState node) k (omega arith) below)
 
   -- the nodes that are met are below 2N,
-  pub nodes-below : (r n i : ℕ) → i < length (met (watched table t r) n)
-      → entry (watched table t r) (met (watched table t r) n) i .node < nodes table
-  nodes-below r n =
-      met-holds (watched table t r) (watched-decides table t r) n (λ node. node < nodes table) (omega (arith, read .some))
-      (λ node k h b _. after-below r node k h b)
+  pub nodes-below : (watch : Watch) (n i : ℕ) → i < length (met (watched table t watch) n)
+      → entry (watched table t watch) (met (watched table t watch) n) i .node < nodes table
+  nodes-below watch n =
+      met-holds (watched table t watch) (watched-decides table t watch) n (λ node. node < nodes table) (omega (arith, read .some))
+      (λ node k h b _. after-below watch node k h b)
 
   -- so there are no more than 2N, however far the scan goes, and after 2N entries it is whole.
-  pub nodes-few : (r n : ℕ) → length (met (watched table t r) n) ≤ nodes table
-  nodes-few r n = few (watched table t r) (watched-decides table t r) n (λ node. node) (nodes table) (λ a b e. e) (nodes-below r n)
+  pub nodes-few : (watch : Watch) (n : ℕ) → length (met (watched table t watch) n) ≤ nodes table
+  nodes-few watch n = few (watched table t watch) (watched-decides table t watch) n (λ node. node) (nodes table) (λ a b e. e) (nodes-below watch n)
 
-  -- The watched walk of r steps with the walk.
-  step-tied : (s : ByTable) (w : Walking table s) (k : ℕ) (below : k < table .head .kinds) (r : ℕ)
-      → nodeAfter table t r (nodeAt r s) k ≡ nodeAt r (tableAfter (table .head) (transition table t (s .state) k) s)
+  -- A watched walk steps with the walk.
+  step-tied : (s : ByTable) (w : Walking table s) (k : ℕ) (below : k < table .head .kinds) (watch : Watch)
+      → nodeAfter table t watch (nodeAt watch s) k ≡ nodeAt watch (tableAfter (table .head) (transition table t (s .state) k) s)
   unfolding nodeAfter
-  step-tied s w k below r =
+  step-tied s w k below watch =
       rw (node-state, node-flag)
-      (node-after (table .head) (transition table t (s .state) k) s (λ f. omega (arith, run-within (s .state) k (w .known) below f)) r)
+      (node-after (table .head) (transition table t (s .state) k) s (λ f. omega (arith, run-within (s .state) k (w .known) below f)) watch)
 
-  -- So the watched walk of r leads along every list without a fault, to the node of the state behind it.
-  tied : (r : ℕ) (s : ByTable) (ks : List ℕ) → Walking table s → KindsBelow (table .head .kinds) ks → faultFrom (byTable table t) s ks ≡ 0
-      → Leads (watched table t r) (nodeAt r s) ks (nodeAt r (stateFrom (byTable table t) s ks))
+  -- So it leads along every list without a fault, to the node of the state behind it.
+  tied : (watch : Watch) (s : ByTable) (ks : List ℕ) → Walking table s → KindsBelow (table .head .kinds) ks → faultFrom (byTable table t) s ks ≡ 0
+      → Leads (watched table t watch) (nodeAt watch s) ks (nodeAt watch (stateFrom (byTable table t) s ks))
   unfolding Leads KindsBelow faultFrom stateFrom
-  tied r s [] w known e = refl
-  tied r s (k ∷ ks) w known e =
+  tied watch s [] w known e = refl
+  tied watch s (k ∷ ks) w known e =
       let both = or-zero _ _ e in
-      let here = step-clean (table .head) (tableKind table k) (transition table t (s .state) k) (s .given) r (both .0) in
-      let later = tied r _ ks (step-walking limit table t read s k w (known .0)) (known .1) (both .1) in
-      (known .0, eq-eqb _ 0 (node-fault table t r s k ∙ here), rw (step-tied s w k (known .0) r) later)
+      let here = step-clean (table .head) (tableKind table k) (transition table t (s .state) k) (s .given) watch (both .0) in
+      let later = tied watch _ ks (step-walking limit table t read s k w (known .0)) (known .1) (both .1) in
+      (known .0, eq-eqb _ 0 (node-fault table t watch s k ∙ here), rw (step-tied s w k (known .0) watch) later)
 
-  pub tied-along : (r : ℕ) (ks : List ℕ) → KindsBelow (table .head .kinds) ks → walkFault table t ks ≡ 0
-      → Leads (watched table t r) 0 ks (nodeAt r (walkEnd table t ks))
-  tied-along r ks known e = rw (none-given r) at (tied r (byTable table t .begin) ks (begin-walking limit table t read) known e)
+  pub tied-along : (watch : Watch) (ks : List ℕ) → KindsBelow (table .head .kinds) ks → walkFault table t ks ≡ 0
+      → Leads (watched table t watch) 0 ks (nodeAt watch (walkEnd table t ks))
+  tied-along watch ks known e = rw (none-among watch) at (tied watch (byTable table t .begin) ks (begin-walking limit table t read) known e)
 
-  -- A list whose first faulty step is its last ends faulty in the watched walk of some register,
+  -- A list whose first faulty step is its last ends faulty in some watched walk,
   pub some-watches : (ks : List ℕ) (k : ℕ) → KindsBelow (table .head .kinds) ks → k < table .head .kinds
       → walkFault table t ks ≡ 0 → 0 < byTable table t .fault (walkEnd table t ks) k
-      → (r : ℕ) × (r ≤ table .head .registers) × EndsFaulty table t r ks k
+      → (watch : Watch) × WatchedBelow (table .head .registers) watch × EndsFaulty table t watch ks k
   some-watches ks k known below e f =
       let s = walkEnd table t ks in
       let x = transition table t (s .state) k in
       let w =
       holds-along (byTable table t) (Walking table) (table .head .kinds) (λ s k w b _. step-walking limit table t read s k w b) _ ks
       (begin-walking limit table t read) known e in
-      let (r, among, faulty) = step-watched (table .head) (tableKind table k) x (s .given) (run-within (s .state) k (w .known) below) f in
-      (r, among, record { node = nodeAt r s; leads = tied-along r ks known e; below = below; faulty = rw (node-fault table t r s k) faulty })
+      let (watch, among, faulty) = step-watched (table .head) (tableKind table k) x (s .given) (run-within (s .state) k (w .known) below) f in
+      (watch, among, record { node = nodeAt watch s; leads = tied-along watch ks known e; below = below; faulty = rw (node-fault table t watch s k) faulty })
 
-  -- and a list that ends faulty in the watched walk of a register is faulty, at its last step or before.
-  pub watched-faulty : (r : ℕ) (ks : List ℕ) (k : ℕ) → EndsFaulty table t r ks k
+  -- and a list that ends faulty in a watched walk is faulty, at its last step or before.
+  pub watched-faulty : (watch : Watch) (ks : List ℕ) (k : ℕ) → EndsFaulty table t watch ks k
       → KindsBelow (table .head .kinds) (ks ++ k ∷ []) × (0 < walkFault table t (ks ++ k ∷ []))
-  watched-faulty r ks k f = (below-snoc (table .head .kinds) ks k known (f .below), snoc-faulty (byTable table t) _ ks k there)
+  watched-faulty watch ks k f = (below-snoc (table .head .kinds) ks k known (f .below), snoc-faulty (byTable table t) _ ks k there)
     where
       known : KindsBelow (table .head .kinds) ks
-      known = leads-below (watched table t r) 0 ks (f .node) (f .leads)
+      known = leads-below (watched table t watch) 0 ks (f .node) (f .leads)
 
       there : walkFault table t ks ≡ 0 → 0 < byTable table t .fault (walkEnd table t ks) k
       there e =
-          let same = leads-unique (watched table t r) 0 ks (f .node) _ (f .leads) (tied-along r ks known e) in
-          step-faulty (table .head) (tableKind table k) _ (walkEnd table t ks .given) r (rw (same, node-fault table t r) at (f .faulty))
+          let same = leads-unique (watched table t watch) 0 ks (f .node) _ (f .leads) (tied-along watch ks known e) in
+          step-faulty (table .head) (tableKind table k) _ (walkEnd table t ks .given) watch (rw (same, node-fault table t watch) at (f .faulty))

@@ -1,4 +1,4 @@
--- What is found for one register, and the best for several.
+-- What is found by one search, and the best of several.
 use Prim.Native.Nat.{ℕ, _*_, _≤_, _<_}
 use mathlib.Core.Path.{_≡_}
 use mathlib.Core.List.{List}
@@ -7,6 +7,7 @@ use Rattle.convention.specs.declared.Table.{Table}
 use Rattle.convention.specs.Numbers.{stateLimit}
 use Rattle.convention.specs.Tables.{tableNo, tableOf}
 use Rattle.convention.specs.Promised.{TableRead}
+use Rattle.judging.specs.declared.steps.Watch.{Watch}
 use Rattle.judging.specs.Watched.{nodes, FirstHit, NoHit, hitList, NoHitBelow, LeastBelow}
 use Rattle.judging.specs.Memory.{foundEnd, bestEnd, listAt, Room}
 
@@ -16,18 +17,18 @@ pub record FindAsks (table : Table) (t work : List ℕ) : Type 0 where
   pub room : Room (nodes table) work
 
 -- The list of the first hit is found, of n kinds; nothing hits where n is 0. The best list is left.
-pub record FindIs (table : Table) (t : List ℕ) (r : ℕ) (before : List ℕ) (n : ℕ) (after : List ℕ) : Type 0 where
-  pub none : n ≡ 0 → NoHit table t r
-  pub some : 0 < n → (i k : ℕ) × FirstHit table t r i k × (listAt after (foundEnd (nodes table)) n ≡ hitList table t r i k)
+pub record FindIs (table : Table) (t : List ℕ) (watch : Watch) (before : List ℕ) (n : ℕ) (after : List ℕ) : Type 0 where
+  pub none : n ≡ 0 → NoHit table t watch
+  pub some : 0 < n → (i k : ℕ) × FirstHit table t watch i k × (listAt after (foundEnd (nodes table)) n ≡ hitList table t watch i k)
   pub short : n ≤ nodes table
   pub best : drop (foundEnd (nodes table)) after ≡ drop (foundEnd (nodes table)) before
 
--- The best list for the registers below `upTo` is there, of n kinds; none of them hits where n is 0.
-pub record BestIs (table : Table) (t before : List ℕ) (upTo n : ℕ) (work : List ℕ) : Type 0 where
+-- The best list is there, of n kinds, for the walks that watch nothing, or a register below `upTo`; none of them hits where n is 0.
+pub record BestIs (table : Table) (t : List ℕ) (upTo n : ℕ) (work : List ℕ) : Type 0 where
   pub none : n ≡ 0 → NoHitBelow table t upTo
   pub some : 0 < n → LeastBelow table t upTo (listAt work (bestEnd (nodes table)) n)
   pub short : n ≤ nodes table
-  pub long : length work ≡ length before
+  pub room : Room (nodes table) work
 
 -- A table that was read from t, room to search it, and room for its list.
 pub record JudgeAsks (table : Table) (t work out : List ℕ) : Type 0 where

@@ -1,5 +1,6 @@
-// The verdict on a table, above the table reader: document 01, demand 3. One register is watched at a time, and the least of
-// the lists that are found is the answer: see specs/Watched.antt for what is searched, and proofs/ for why it is the verdict.
+// The verdict on a table, above the table reader: document 01, demand 3. Nothing is watched, and then one register at a time,
+// and the least of the lists that are found is the answer: see specs/Watched.antt for what is searched, and proofs/ for why it
+// is the verdict.
 mod lists;
 mod search;
 mod steps;
@@ -7,41 +8,53 @@ mod words;
 
 use convention::Judging;
 use convention::Reading;
+use convention::Reg;
 use convention::Table;
-ghost use Prim.Native.Nat.{_+_};
+use steps::Watch;
 ghost use Rattle.convention.specs.Numbers.{stateLimit};
 ghost use Rattle.convention.specs.Judged.{Judges};
 ghost use Rattle.judging.specs.Found.{FindAsks, FindIs, BestIs, JudgeAsks};
 
-// Finds the first faulty list of the walk that watches r. Answers how many kinds it has, 0 where there is none.
-fn find(table: Table, t: &[u8], r: u8, work: &mut [u8]) -> usize
+// Finds the first faulty list of a watched walk. Answers how many kinds it has, 0 where there is none.
+fn find(table: Table, t: &[u8], watch: Watch, work: &mut [u8]) -> usize
     requires { ⌜ FindAsks table (now t) (now work) ⌝ }
-    ensures { λ n. ⌜ FindIs table (now (t .entry)) r (now (work .entry)) n (now (work .exit)) ⌝ }
+    ensures { λ n. ⌜ FindIs table (now (t .entry)) watch (now (work .entry)) n (now (work .exit)) ⌝ }
 {
     let kinds = table.head.kinds;
     let nodes = 2 * table.states as usize;
     words::start(work, nodes);
-    let found = search::search(table, t, r, work);
+    let found = search::search(table, t, watch, work);
     if found.kind < kinds {
         return lists::write_found(work, nodes, found.entry, found.kind);
     }
     0
 }
 
-// The least of the lists that are found for a register each, and for none. Answers how many kinds it has, 0 where there is
-// none.
+// Makes the list that is found where nothing is watched the best. Answers how many kinds it has, 0 where there is none.
+fn first_list(table: Table, t: &[u8], work: &mut [u8]) -> usize
+    requires { ⌜ FindAsks table (now t) (now work) ⌝ }
+    ensures { λ n. ⌜ BestIs table (now (t .entry)) 0 n (now (work .exit)) ⌝ }
+{
+    let nodes = 2 * table.states as usize;
+    let found = find(table, t, Watch::Nothing, work);
+    lists::keep(work, nodes, found);
+    found
+}
+
+// The least of the lists that are found where nothing is watched, and where a register is, one at a time. Answers how many
+// kinds it has, 0 where there is none.
 fn least_list(table: Table, t: &[u8], work: &mut [u8]) -> usize
     requires { ⌜ FindAsks table (now t) (now work) ⌝ }
-    ensures { λ n. ⌜ BestIs table (now (t .entry)) (now (work .entry)) (table .head .registers + 1) n (now (work .exit)) ⌝ }
+    ensures { λ n. ⌜ BestIs table (now (t .entry)) (table .head .registers) n (now (work .exit)) ⌝ }
 {
     let registers = table.head.registers;
     let nodes = 2 * table.states as usize;
-    let mut best = 0;
-    let mut r: u8 = 0;
-    while r <= registers {
-        let found = find(table, t, r, work);
+    let mut best = first_list(table, t, work);
+    let mut i: u8 = 0;
+    while i < registers {
+        let found = find(table, t, Watch::Register(Reg(i)), work);
         best = lists::better(work, nodes, found, best);
-        r += 1;
+        i += 1;
     }
     best
 }

@@ -42,7 +42,7 @@ fn is_before(work: &[u8], nodes: usize, found: usize, best: usize) -> bool
 }
 
 // Makes the list found the best.
-fn keep(work: &mut [u8], nodes: usize, found: usize)
+pub(crate) fn keep(work: &mut [u8], nodes: usize, found: usize)
     requires { ⌜ ListAsks nodes (now work) found ⌝ }
     ensures { λ _. ⌜ now (work .exit) ≡ kept nodes (now (work .entry)) found ⌝ }
 {

@@ -1,8 +1,9 @@
-// The search for the first faulty kind of the walk that watches a register: breadth first over the nodes, in the order of
-// meeting, and at each node the kinds in order.
+// The search for the first faulty kind of the walk that watches a register, or nothing: breadth first over the nodes, in the
+// order of meeting, and at each node the kinds in order.
 use convention::Table;
 ghost use Rattle.judging.specs.Searched.{VisitAsks, VisitIs, SearchAsks, SearchIs};
 use crate::steps;
+use crate::steps::Watch;
 use crate::words;
 
 // How far an entry was gone through: the first faulty kind, the number of kinds where none is, and how many entries there are then.
@@ -15,21 +16,21 @@ struct Visited {
 fn visit(
     table: Table,
     t: &[u8],
-    r: u8,
+    watch: Watch,
     work: &mut [u8],
     i: usize,
     node: usize,
     count: usize,
 ) -> Visited
-    requires { ⌜ VisitAsks table (now t) r i node count (now work) ⌝ }
-    ensures { λ v. ⌜ VisitIs table (now (t .entry)) r i (now (work .entry)) (v .kind) (v .count) (now (work .exit)) ⌝ }
+    requires { ⌜ VisitAsks table (now t) watch i node count (now work) ⌝ }
+    ensures { λ v. ⌜ VisitIs table (now (t .entry)) watch i (now (work .entry)) (v .kind) (v .count) (now (work .exit)) ⌝ }
 {
     let kinds = table.head.kinds;
     let nodes = 2 * table.states as usize;
     let mut met = count;
     let mut k: u8 = 0;
     while k < kinds {
-        let step = steps::step(table, t, r, node, k);
+        let step = steps::step(table, t, watch, node, k);
         if step.fault != 0 {
             return Visited {
                 kind: k,
@@ -51,10 +52,10 @@ pub(crate) struct Found {
     pub(crate) kind: u8,
 }
 
-// Searches the nodes, from the start on, for the first faulty kind of the walk that watches r, and stops there.
-pub(crate) fn search(table: Table, t: &[u8], r: u8, work: &mut [u8]) -> Found
-    requires { ⌜ SearchAsks table (now t) r (now work) ⌝ }
-    ensures { λ f. ⌜ SearchIs table (now (t .entry)) r (now (work .entry)) (f .entry) (f .kind) (now (work .exit)) ⌝ }
+// Searches the nodes of a watched walk, from the start on, for its first faulty kind, and stops there.
+pub(crate) fn search(table: Table, t: &[u8], watch: Watch, work: &mut [u8]) -> Found
+    requires { ⌜ SearchAsks table (now t) watch (now work) ⌝ }
+    ensures { λ f. ⌜ SearchIs table (now (t .entry)) watch (now (work .entry)) (f .entry) (f .kind) (now (work .exit)) ⌝ }
 {
     let kinds = table.head.kinds;
     let nodes = 2 * table.states as usize;
@@ -62,7 +63,7 @@ pub(crate) fn search(table: Table, t: &[u8], r: u8, work: &mut [u8]) -> Found
     let mut i = 0;
     while i < count {
         let node = words::read_word(work, nodes + i);
-        let visited = visit(table, t, r, work, i, node, count);
+        let visited = visit(table, t, watch, work, i, node, count);
         if visited.kind < kinds {
             return Found {
                 entry: i,

@@ -1,39 +1,44 @@
-// One step of the walk that watches a register r: a node is a state and whether r was given, 2 * state + 1 or 2 * state.
+// One step of a walk that watches one register, or nothing: a node is a state and whether what is watched was given,
+// 2 * state + 1 or 2 * state.
 use convention::Head;
+use convention::Reg;
 use convention::Table;
 use convention::TableKind;
 use convention::Transition;
 ghost use mathlib.Core.Path.{_≡_};
-ghost use mathlib.Core.Bool.{_&&_};
-ghost use lib.Dec.{eqb};
 ghost use Rattle.walking.specs.Asked.{FaultAsks};
-ghost use Rattle.judging.specs.Watched.{nodeOf, covers, watchedFault, watchedGiven};
+ghost use Rattle.judging.specs.Watched.{nodeOf, givesWatched, watchedFault};
 ghost use Rattle.judging.specs.Searched.{StepAsks, StepIs};
 
-// Whether a transition gives register r.
-fn gives(x: Transition, r: u8) -> bool
-    ensures { λ b. ⌜ b ≡ (eqb (x .form) 1 && covers (x .a) (x .b) r) ⌝ }
-{
-    let end = x.a as u16 + x.b as u16;
-    (x.form == 1) & ((x.a <= r) & ((r as u16) < end))
+// What a walk watches: a register, or nothing.
+pub(crate) enum Watch {
+    Register(Reg),
+    Nothing,
 }
 
-// The fault of a step as far as r tells: 2 where r is given once more, and else that of a step before which nothing was given.
-fn watched_fault(head: Head, kind: TableKind, x: Transition, r: u8, given: bool) -> u8
-    requires { ⌜ FaultAsks kind x ⌝ }
-    ensures { λ f. ⌜ f ≡ watchedFault head kind x r given ⌝ }
+// Whether a transition gives what is watched.
+fn gives(x: Transition, watch: Watch) -> bool
+    ensures { λ b. ⌜ b ≡ givesWatched x watch ⌝ }
 {
-    if given & gives(x, r) {
+    match watch {
+        Watch::Register(r) => {
+            let end = x.a as u16 + x.b as u16;
+            (x.form == 1) & ((x.a <= r.0) & ((r.0 as u16) < end))
+        }
+        Watch::Nothing => false,
+    }
+}
+
+// The fault of a step as far as what is watched tells: 2 where that is given once more, and else that of a step before which
+// nothing was given.
+fn watched_fault(head: Head, kind: TableKind, x: Transition, again: bool) -> u8
+    requires { ⌜ FaultAsks kind x ⌝ }
+    ensures { λ f. ⌜ f ≡ watchedFault head kind x again ⌝ }
+{
+    if again {
         return 2;
     }
     walking::step_fault(head, kind, x, [false; 16])
-}
-
-// Whether r is given once the step was made.
-fn watched_given(x: Transition, r: u8, given: bool) -> bool
-    ensures { λ b. ⌜ b ≡ watchedGiven x r given ⌝ }
-{
-    given | gives(x, r)
 }
 
 // The node of a state.
@@ -53,16 +58,19 @@ pub(crate) struct Stepped {
     pub(crate) next: usize,
 }
 
-// The step of kind k from a node. One transition is read.
-pub(crate) fn step(table: Table, t: &[u8], r: u8, node: usize, k: u8) -> Stepped
+// The step of kind k from a node. One transition is read. The kinds are taken out of the table, which would be copied whole for
+// an index into it.
+pub(crate) fn step(table: Table, t: &[u8], watch: Watch, node: usize, k: u8) -> Stepped
     requires { ⌜ StepAsks table (now t) node k ⌝ }
-    ensures { λ s. ⌜ StepIs table (now (t .entry)) r node k (s .fault) (s .next) ⌝ }
+    ensures { λ s. ⌜ StepIs table (now (t .entry)) watch node k (s .fault) (s .next) ⌝ }
 {
     let x = table::transition_of(table, t, (node / 2) as u16, k);
-    let kind = table.kinds[k as usize];
+    let kinds = table.kinds;
+    let kind = kinds[k as usize];
     let head = table.head;
     let given = node % 2 == 1;
-    let fault = watched_fault(head, kind, x, r, given);
-    let next = node_of(x.next, watched_given(x, r, given));
+    let here = gives(x, watch);
+    let fault = watched_fault(head, kind, x, given & here);
+    let next = node_of(x.next, given | here);
     Stepped { fault, next }
 }

@@ -1,16 +1,18 @@
--- `least_list`: before register r the best list is the least for the registers below it.
-use Prim.Native.Nat.{_+_, _-_, _≤_}
-use Rattle.judging.proofs.Finding.{best-begin, best-finds, best-lists, best-turn, best-end}
+-- `least_list`: before register i the best list is the least where nothing is watched, or a register below i.
+use Prim.Native.Nat.{_-_, _≤_}
+use mathlib.Core.Path.{_≡_}
+use lib.ListN.{length}
+use Rattle.judging.proofs.Finding.{best-finds, best-lists, best-turn, best-end}
 use Rattle.judging.specs.Found.{BestIs}
 use borrow.Author.Needs.{needs}
 use Rattle.judging.proofs.least_list.Statement.{statement}
 use Rattle.judging.proofs.least_list.Tie as tie
 
 abbrev Inv-loop : tie.InvT-loop
-Inv-loop table t work₀ registers nodes best₀ r₀ work best r = BestIs table t work₀ r best work × (r ≤ registers + 1)
+Inv-loop table t work₀ registers nodes best₀ i₀ work best i = BestIs table t i best work × (length work ≡ length work₀) × (i ≤ registers)
 
 abbrev μ-loop : tie.MeasureT-loop
-μ-loop table t work₀ registers nodes best₀ r₀ work best r = registers + 1 - r
+μ-loop table t work₀ registers nodes best₀ i₀ work best i = registers - i
 
 cast-nodes : tie.Need-cast-nodes Inv-loop μ-loop
 cast-nodes c = search needs
@@ -18,8 +20,11 @@ cast-nodes c = search needs
 mul-nodes : tie.Need-mul-nodes Inv-loop μ-loop
 mul-nodes c = search needs
 
+first-list-requires : tie.Need-first-list-requires Inv-loop μ-loop
+first-list-requires c κs = search needs
+
 loop-holds : tie.Need-loop-holds Inv-loop μ-loop
-loop-holds c = (search (best-begin, needs), search needs)
+loop-holds c = search needs
 
 find-requires : tie.Need-find-requires Inv-loop μ-loop
 find-requires c κs = search (best-finds, needs)
@@ -27,14 +32,14 @@ find-requires c κs = search (best-finds, needs)
 better-requires : tie.Need-better-requires Inv-loop μ-loop
 better-requires c κs = search (best-lists, needs)
 
-add-r : tie.Need-add-r Inv-loop μ-loop
-add-r c = search needs
+add-i : tie.Need-add-i Inv-loop μ-loop
+add-i c = search needs
 
 loop-less : tie.Need-loop-less Inv-loop μ-loop
 loop-less c = search needs
 
 loop-again : tie.Need-loop-again Inv-loop μ-loop
-loop-again c = (search (best-turn, needs), search needs)
+loop-again c = (search (best-turn, c .before .before .better .ensures), search needs, search needs)
 
 same-length : tie.Need-same-length Inv-loop μ-loop
 same-length c = search needs
@@ -50,10 +55,11 @@ least-list-spec =
     μ-loop
     cast-nodes
     mul-nodes
+    first-list-requires
     loop-holds
     find-requires
     better-requires
-    add-r
+    add-i
     loop-less
     loop-again
     same-length

@@ -7,10 +7,10 @@ use Rattle.judging.proofs.search.search.Statement.{statement}
 use Rattle.judging.proofs.search.search.Tie as tie
 
 abbrev Inv-loop : tie.InvT-loop
-Inv-loop table t r work₀ kinds nodes count₀ i₀ work count i = Searching table t r work₀ i count work
+Inv-loop table t watch work₀ kinds nodes count₀ i₀ work count i = Searching table t watch work₀ i count work
 
 abbrev μ-loop : tie.MeasureT-loop
-μ-loop table t r work₀ kinds nodes count₀ i₀ work count i = nodes - i
+μ-loop table t watch work₀ kinds nodes count₀ i₀ work count i = nodes - i
 
 cast-nodes : tie.Need-cast-nodes Inv-loop μ-loop
 cast-nodes c = search needs

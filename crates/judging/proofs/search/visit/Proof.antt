@@ -1,16 +1,16 @@
 -- `visit`: before kind k the kinds below it were gone through, and none is faulty.
 use Prim.Native.Nat.{_-_}
-use Rattle.judging.proofs.Searching.{visit-begin, visit-asks, visit-hit, visit-meets, visit-turn, visit-end}
+use Rattle.judging.proofs.Searching.{visit-begin, visit-inside, visit-hit, visit-meets, visit-turn, visit-end}
 use Rattle.judging.specs.Searched.{Visiting}
 use borrow.Author.Needs.{needs}
 use Rattle.judging.proofs.search.visit.Statement.{statement}
 use Rattle.judging.proofs.search.visit.Tie as tie
 
 abbrev Inv-loop : tie.InvT-loop
-Inv-loop table t r work₀ i node count kinds nodes met₀ k₀ work met k = Visiting table t r i work₀ k met work
+Inv-loop table t watch work₀ i node count kinds nodes met₀ k₀ work met k = Visiting table t watch i work₀ k met work
 
 abbrev μ-loop : tie.MeasureT-loop
-μ-loop table t r work₀ i node count kinds nodes met₀ k₀ work met k = kinds - k
+μ-loop table t watch work₀ i node count kinds nodes met₀ k₀ work met k = kinds - k
 
 cast-nodes : tie.Need-cast-nodes Inv-loop μ-loop
 cast-nodes c = search needs
@@ -22,7 +22,7 @@ loop-holds : tie.Need-loop-holds Inv-loop μ-loop
 loop-holds c = search (visit-begin, needs)
 
 step-requires : tie.Need-step-requires Inv-loop μ-loop
-step-requires c κs = search (visit-asks, needs)
+step-requires c κs = record { read = search needs; inside = search (visit-inside, needs); below = search needs }
 
 same-length : tie.Need-same-length Inv-loop μ-loop
 same-length c = search needs

@@ -13,14 +13,14 @@ transition-of-requires c κs = search needs
 mul-kind : tie.Need-mul-kind
 mul-kind c = search needs
 
-element-copy-out-kind : tie.Need-element-copy-out-kind
-element-copy-out-kind c = search needs
+array-copy-out-kind : tie.Need-array-copy-out-kind
+array-copy-out-kind c = search needs
+
+gives-requires : tie.Need-gives-requires
+gives-requires c κs = search needs
 
 watched-fault-requires : tie.Need-watched-fault-requires
 watched-fault-requires c κs = search (step-asks, needs)
-
-watched-given-requires : tie.Need-watched-given-requires
-watched-given-requires c κs = search needs
 
 node-of-requires : tie.Need-node-of-requires
 node-of-requires c κs = search needs
@@ -35,8 +35,8 @@ step-spec =
     cast-transition-of
     transition-of-requires
     mul-kind
-    element-copy-out-kind
+    array-copy-out-kind
+    gives-requires
     watched-fault-requires
-    watched-given-requires
     node-of-requires
     returns)
