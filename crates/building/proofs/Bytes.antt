@@ -4,7 +4,7 @@ use mathlib.Core.Path.{_≡_, refl, sym}
 use mathlib.Core.List.{List, _++_}
 use native.Mathlib.Omega.{arith}
 use lib.ListN.{length, take, drop, length-append}
-use lib.Seq.{take-at}
+use lib.Seq.{take-at, drop-at}
 use borrow.Author.Tests.{leb-true}
 use Rattle.convention.specs.declared.Building.the-variants.{Built}
 use Rattle.convention.specs.Sheets.{sheetNo, sheetOf}
@@ -56,3 +56,9 @@ module _ (limit : ℕ) (s out : List ℕ) (n len : ℕ) (built : build limit s (
   bytes-within =
       rw there
       (omega (arith, length-append (builtTable limit (sheetOf s)) (drop (length (builtTable limit (sheetOf s))) out), built-says limit s (length out) n len built .2))
+
+  -- The bytes behind it are left.
+  pub bytes-behind : drop len (buildMemory limit s out) ≡ drop len out
+  bytes-behind =
+      let same = built-says limit s (length out) n len built .2 in
+      rw (there, same, drop-at (builtTable limit (sheetOf s)) _ (length (builtTable limit (sheetOf s))) refl)

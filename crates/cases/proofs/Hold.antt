@@ -9,24 +9,24 @@ use Rattle.convention.specs.Lists.{faultFrom, stopFrom, stateFrom, placesFrom, 
 use Rattle.convention.specs.Rules.{freeRun, markRuns, leftBefore, rulesPlace, rulesAfter, placeByRules, rulesMemory}
 use Rattle.convention.specs.Walked.{tableFault, tableAfter, placeByTable, tableMemory}
 use Rattle.convention.specs.Judged.{eachKind, listsOf, listsUpTo, firstFault, verdictByTrying}
-use Rattle.cases.specs.Readings.{asDefined, skippedGone, forgetsP, stopsAtN, alignmentFirst, lengthOfAll}
-use Rattle.cases.specs.Cases.{Given, byRulesIn, byTableIn, judge, askRow, comesOf, defined, reader, Case, cases, sameBytes, failing}
+use Rattle.cases.specs.Readings.{asDefined, skippedGone, forgetsP, eachAlone, stopsAtN, alignmentFirst, lengthOfAll}
+use Rattle.cases.specs.Cases.{Given, byRulesIn, byTableIn, judge, askRow, comesOf, defined, ours, Case, cases, sameBytes, failing}
 use Rattle.cases.specs.Settled.{settled}
 
-pub cases-hold : map (λ (c : Case). comesOf reader (c .given)) cases ≡ map (λ (c : Case). c .says) cases
+pub cases-hold : map (λ (c : Case). comesOf ours (c .given)) cases ≡ map (λ (c : Case). c .says) cases
 unfolding comesOf headOf headNo shapeNo startsNo sheetKindNo sheetKindOf sheetKindsNo sheetKindsOf sheetKindsLength sheetNo sheetOf tableKindOf tableKindsNo tableKindsOf transitionNo transitionsNo tableNo tableOf rowNo row leastOffset faultFrom stopFrom stateFrom placesFrom recordsOf unknownAt placing placingMemory freeRun markRuns leftBefore rulesPlace rulesAfter tableFault tableAfter eachKind listsOf listsUpTo firstFault
 cases-hold = refl
 
-pub settled-hold : map (λ (c : Case). comesOf reader (c .given)) settled ≡ map (λ (c : Case). c .says) settled
+pub settled-hold : map (λ (c : Case). comesOf ours (c .given)) settled ≡ map (λ (c : Case). c .says) settled
 unfolding comesOf headOf headNo shapeNo startsNo sheetKindNo sheetKindOf sheetKindsNo sheetKindsOf sheetKindsLength sheetNo sheetOf tableKindOf tableKindsNo tableKindsOf transitionNo transitionsNo tableNo tableOf rowNo row leastOffset faultFrom stopFrom stateFrom placesFrom recordsOf unknownAt placing placingMemory freeRun markRuns leftBefore rulesPlace rulesAfter tableFault tableAfter eachKind listsOf listsUpTo firstFault
 settled-hold = refl
 
--- The misreadings that 01 names, and some others: by which of P1 to P12 each is caught.
+-- Misreadings that 01 names, and two others: by which of P1 to P12 each is caught.
 pub misread-caught :
-    (failing skippedGone 1 cases ≡ 4 ∷ []) × (failing forgetsP 1 cases ≡ 2 ∷ 3 ∷ 4 ∷ 5 ∷ []) × (failing stopsAtN 1 cases ≡ 8 ∷ [])
+    (failing skippedGone 1 cases ≡ 4 ∷ []) × (failing forgetsP 1 cases ≡ 2 ∷ 3 ∷ 4 ∷ 5 ∷ []) × (failing eachAlone 1 cases ≡ 8 ∷ []) × (failing stopsAtN 1 cases ≡ 8 ∷ [])
     × (failing alignmentFirst 1 cases ≡ 12 ∷ []) × (failing lengthOfAll 1 cases ≡ 1 ∷ 2 ∷ 3 ∷ 4 ∷ 5 ∷ 6 ∷ 7 ∷ [])
 unfolding failing sameBytes comesOf headOf headNo shapeNo startsNo sheetKindNo sheetKindOf sheetKindsNo sheetKindsOf sheetKindsLength sheetNo sheetOf tableKindOf tableKindsNo tableKindsOf transitionNo transitionsNo tableNo tableOf rowNo row leastOffset faultFrom stopFrom stateFrom placesFrom recordsOf unknownAt placing placingMemory freeRun markRuns leftBefore rulesPlace rulesAfter tableFault tableAfter eachKind listsOf listsUpTo firstFault
-misread-caught = (refl, refl, refl, refl, refl)
+misread-caught = (refl, refl, refl, refl, refl, refl)
 
 -- The cases speak of the definitions that the public calls' contracts cite.
 pub as-defined : (g : Given) → comesOf asDefined g ≡ defined g

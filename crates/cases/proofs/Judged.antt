@@ -15,8 +15,9 @@ use Rattle.convention.proofs.Numbers.{or-on}
 use Rattle.judging.proofs.Trying.{judges-trying}
 use Rattle.cases.specs.Readings.{asDefined}
 use Rattle.cases.specs.Cases.{Given, byRulesIn, byTableIn, judge, askRow, judged, comesOf, Case, cases}
+use Rattle.cases.specs.Settled.{settled}
 use Rattle.cases.specs.Meant.{JudgedAs, AllJudged}
-use Rattle.cases.proofs.Hold.{cases-hold, as-defined}
+use Rattle.cases.proofs.Hold.{cases-hold, settled-hold, as-defined}
 
 -- A table that can be read, which has its verdict by trying.
 judged-as : (t : List ℕ) → tableNo stateLimit t ≡ 0 → JudgedAs (judge t) (judged 0 (verdictByTrying t))
@@ -52,5 +53,5 @@ all-judged (c ∷ cs) e =
     let here : comesOf asDefined (c .given) ≡ c .says = cc in
     (rw (← here) (one-judged (c .given)), all-judged cs (cc))
 
-pub judged-hold : AllJudged cases
-judged-hold = all-judged cases cases-hold
+pub judged-hold : AllJudged cases × AllJudged settled
+judged-hold = (all-judged cases cases-hold, all-judged settled settled-hold)

@@ -11,7 +11,7 @@ use Rattle.convention.specs.Lists.{Steps, recordLength, placing, placingMemory}
 use Rattle.convention.specs.Rules.{placeByRules, rulesMemory}
 use Rattle.convention.specs.Walked.{placeByTable, tableMemory}
 use Rattle.convention.specs.Judged.{listsUpTo, Verdict, firstFault, verdictByTrying}
-use Rattle.cases.specs.Readings.{Reading, asDefined}
+use Rattle.cases.specs.Readings.{Reader, asDefined}
 
 -- A case: a list to place by the rules of a sheet or by a table, with the lent memory; a table to judge; a row to ask for.
 pub data Given : Type 0 where
@@ -45,7 +45,7 @@ judged zero verdict = record { said = judgingSays (verdict .answer); bytes = ver
 judged (suc number) verdict = record { said = refusal (suc number); bytes = [] }
 
 -- What comes of a case for a reader.
-unfoldable pub comesOf : Reading → Given → Outcome
+unfoldable pub comesOf : Reader → Given → Outcome
 comesOf r (byRulesIn s ks lent) = placedBy (r .number s) (sheetOf s .head .kinds) (r .rules (sheetOf s)) ks lent
 comesOf r (byTableIn t ks lent) = placedBy (tableNo stateLimit t) (tableOf t .head .kinds) (r .table (tableOf t) t) ks lent
 comesOf r (judge t) = judged (tableNo stateLimit t) (firstFault (r .table (tableOf t) t) (listsUpTo (tableOf t .head .kinds) (r .hunted t)))
@@ -62,8 +62,8 @@ defined (judge t) = judged (tableNo stateLimit t) (verdictByTrying t)
 defined (askRow t state) = record { said = refusal (rowNo stateLimit t state); bytes = row stateLimit t state }
 
 -- The reader whom the cases hold for.
-abbrev pub reader : Reading
-reader = asDefined
+abbrev pub ours : Reader
+ours = asDefined
 
 -- Sheet S: its head, char and int, and then double, whose bytes some cases change. The length counts the bytes after it.
 abbrev pub withDouble : ℕ → List ℕ → List ℕ
@@ -112,7 +112,7 @@ abbrev pub placed : ℕ → ℕ → List ℕ → Outcome
 placed count p bytes = record { said = record { number = 0; fault = 0; count = count; value = p }; bytes = bytes }
 
 abbrev pub refused : ℕ → ℕ → ℕ → List ℕ → Outcome
-refused number position fault ks = record { said = record { number = number; fault = fault; count = position; value = 0 }; bytes = lentFor ks }
+refused number position fault lent = record { said = record { number = number; fault = fault; count = position; value = 0 }; bytes = lent }
 
 abbrev pub clean : Outcome
 clean = record { said = record { number = 0; fault = 0; count = 0; value = 0 }; bytes = [] }
@@ -139,7 +139,7 @@ cases =
     ⟹ placed 5 8 (inRegisters 0 1 ++ (inRegisters 1 1 ++ (inRegisters 2 1 ++ (onStack 0 8 ++ inRegisters 3 1)))))
     ∷ (place closingDouble (char ∷ int ∷ int ∷ double ∷ int ∷ [])
     ⟹ placed 5 12 (inRegisters 0 1 ++ (inRegisters 1 1 ++ (inRegisters 2 1 ++ (onStack 0 8 ++ onStack 8 4)))))
-    ∷ (place stacklessDouble (char ∷ double ∷ double ∷ []) ⟹ refused 10 2 1 (char ∷ double ∷ double ∷ []))
+    ∷ (place stacklessDouble (char ∷ double ∷ double ∷ []) ⟹ refused 10 2 1 (lentFor (char ∷ double ∷ double ∷ [])))
     ∷ (place evenDouble (int ∷ double ∷ int ∷ []) ⟹ placed 3 4 (inRegisters 0 1 ++ (inRegisters 2 2 ++ onStack 0 4)))
     ∷ (judge (oneTransition 1 0 1 0) ⟹ goesWrong 2 (0 ∷ 0 ∷ []))
     ∷ (judge (oneTransition 2 0 4 0) ⟹ clean)
@@ -160,6 +160,6 @@ sameOutcome a b =
     eqb (a .said .number) (b .said .number) && eqb (a .said .fault) (b .said .fault) && eqb (a .said .count) (b .said .count)
     && eqb (a .said .value) (b .said .value) && sameBytes (a .bytes) (b .bytes)
 
-unfoldable pub failing : Reading → ℕ → List Case → List ℕ
+unfoldable pub failing : Reader → ℕ → List Case → List ℕ
 failing r i [] = []
 failing r i (c ∷ cs) = elim (sameOutcome (comesOf r (c .given)) (c .says)) [ true ↦ failing r (suc i) cs | false ↦ i ∷ failing r (suc i) cs ]

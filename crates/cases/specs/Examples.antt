@@ -1,5 +1,5 @@
 -- Document 01, 'Examples to settle the reading', those outside P1 to P12 that compute at once: what building gives, the states of S, and lines. What
--- stands here is 01's text; proofs/Computed.antt holds the definitions to it.
+-- stands here is 01's text; proofs/Computed.antt and, for the lines, proofs/Printed.antt hold the definitions to it.
 use Prim.Native.Nat.{ℕ}
 use mathlib.Core.List.{List, [], _∷_, _++_, map}
 use mathlib.Core.Bool.{true, false}

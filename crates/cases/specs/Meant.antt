@@ -1,4 +1,4 @@
--- P8 to P12 of the judge's contract itself, and 01's lines of the program's: what is to hold of whatever the judge answers, not of a verdict found by trying.
+-- P8 to P12 of the judge's contract itself: what is to hold of whatever the judge answers, and not of a verdict found by trying.
 use Prim.Native.Nat.{ℕ, _≤_}
 use mathlib.Core.Path.{_≡_}
 use mathlib.Core.List.{List, [], _∷_}

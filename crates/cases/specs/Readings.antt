@@ -1,39 +1,39 @@
 -- How a reader takes document 01, as far as its examples go through it: as the definitions say it, or by one of the misreadings that 01 names.
 use Prim.Native.Nat.{ℕ, zero, suc, _+_, _%_}
-use mathlib.Core.Bool.{true, false, _&&_}
+use mathlib.Core.Bool.{true, false, not, cond, _&&_}
 use mathlib.Core.List.{List, [], _∷_, map}
-use lib.Dec.{ltb, eqb}
-use lib.ListN.{length}
+use lib.Dec.{ltb, leb, eqb}
+use lib.ListN.{length, drop}
 use Rattle.convention.specs.declared.Sheet.{Sheet}
 use Rattle.convention.specs.declared.SheetKind.{SheetKind}
 use Rattle.convention.specs.declared.Table.{Table}
 use Rattle.convention.specs.Numbers.{stateLimit, orElse, unless}
-use Rattle.convention.specs.Fields.{lengthField}
-use Rattle.convention.specs.Sheets.{sheetNo}
+use Rattle.convention.specs.Fields.{lengthField, kindsAt, versionNo, headOf, headNo, leftOverNo}
+use Rattle.convention.specs.Sheets.{sheetKindsNo, sheetEnd, sheetNo}
 use Rattle.convention.specs.Tables.{tableOf, tableKind, transition}
 use Rattle.convention.specs.Lists.{Steps}
-use Rattle.convention.specs.Rules.{byRules}
+use Rattle.convention.specs.Rules.{noRegisters, byRules}
 use Rattle.convention.specs.Walked.{byTable}
 use Rattle.convention.specs.Explored.{Automaton, Entry, firstEntry, entry, meet, met}
 use Rattle.convention.specs.Built.{allocation, fromAllocation}
 use Rattle.convention.specs.Judged.{judgeRoom}
 
 -- The number of a sheet, the two ways of placing, and how many kinds the lists have at most among which a faulty one is looked for.
-pub record Reading : Type 1 where
+pub record Reader : Type 1 where
   pub number : List ℕ → ℕ
   pub rules : Sheet → Steps
   pub table : Table → List ℕ → Steps
   pub hunted : List ℕ → ℕ
 
 -- As the definitions say it.
-abbrev pub asDefined : Reading
+abbrev pub asDefined : Reader
 asDefined = record { number = sheetNo; rules = byRules; table = byTable; hunted = judgeRoom }
 
 -- 'Treating a register once skipped as gone although the kind does not close': every kind is read as closing.
 abbrev pub closes : SheetKind → SheetKind
 closes k = record { size = k .size; alignment = k .alignment; flags = k .flags % 2 + 2; tries = k .tries; starts = k .starts }
 
-abbrev pub skippedGone : Reading
+abbrev pub skippedGone : Reader
 skippedGone = record {
   number = sheetNo;
   rules = λ sheet. byRules (record { head = sheet .head; kinds = map closes (sheet .kinds) });
@@ -42,7 +42,7 @@ skippedGone = record {
 }
 
 -- 'Keeping p mod A and forgetting p'.
-abbrev pub forgetsP : Reading
+abbrev pub forgetsP : Reader
 forgetsP = record {
   number = sheetNo;
   rules = λ sheet. record {
@@ -57,12 +57,28 @@ forgetsP = record {
   hunted = judgeRoom;
 }
 
+-- 'Looking at each transition alone': no register is remembered as given.
+abbrev pub eachAlone : Reader
+eachAlone = record {
+  number = sheetNo;
+  rules = byRules;
+  table = λ table t. record {
+    State = byTable table t .State;
+    begin = byTable table t .begin;
+    place = byTable table t .place;
+    fault = byTable table t .fault;
+    after = λ s k. record { state = byTable table t .after s k .state; given = noRegisters; p = byTable table t .after s k .p };
+    p = byTable table t .p;
+  };
+  hunted = judgeRoom;
+}
+
 -- 'Stopping at N arguments when hunting'.
-abbrev pub stopsAtN : Reading
+abbrev pub stopsAtN : Reader
 stopsAtN = record { number = sheetNo; rules = byRules; table = byTable; hunted = λ t. tableOf t .states }
 
 -- Fault 4 looked for before fault 3.
-abbrev pub alignmentFirst : Reading
+abbrev pub alignmentFirst : Reader
 alignmentFirst = record {
   number = sheetNo;
   rules = byRules;
@@ -70,7 +86,9 @@ alignmentFirst = record {
     State = byTable table t .State;
     begin = byTable table t .begin;
     place = byTable table t .place;
-    fault = λ s k. orElse (unless (eqb (transition table t (s .state) k .a % tableKind table k .alignment) 0) 4) (byTable table t .fault s k);
+    fault = λ s k.
+        cond (eqb (transition table t (s .state) k .form) 2 && not (eqb (transition table t (s .state) k .a % tableKind table k .alignment) 0)) 4
+        (byTable table t .fault s k);
     after = byTable table t .after;
     p = byTable table t .p;
   };
@@ -78,9 +96,11 @@ alignmentFirst = record {
 }
 
 -- The length field taken for the count of all bytes, its own two included.
-abbrev pub lengthOfAll : Reading
+abbrev pub lengthOfAll : Reader
 lengthOfAll = record {
-  number = λ s. orElse (unless (eqb (lengthField s) (length s)) 1) (sheetNo s);
+  number = λ s.
+      orElse (unless (leb 2 (length s) && eqb (lengthField s) (length s)) 1)
+      (orElse (versionNo s) (orElse (headNo s) (orElse (sheetKindsNo (headOf s) (drop kindsAt s) (headOf s .kinds)) (leftOverNo s (sheetEnd s)))));
   rules = byRules;
   table = byTable;
   hunted = judgeRoom;
@@ -107,5 +127,6 @@ unfoldable pub inRounds : (X : Automaton) → ℕ → ℕ → List (Entry X) →
 inRounds X turns zero l = l
 inRounds X turns (suc rounds) l = inRounds X turns rounds (kindByKind X turns (X .kinds) l)
 
+-- Two rounds of sixteen turns a kind, which are more than S's twelve states need.
 abbrev pub kindsThenStates : (X : Automaton) → List (Entry X)
 kindsThenStates X = inRounds X 16 2 (firstEntry X ∷ [])

@@ -3,15 +3,11 @@ use Prim.Native.Nat.{ℕ}
 use mathlib.Core.List.{List, [], _∷_, _++_}
 use lib.ListN.{replicate}
 use Rattle.convention.specs.Numbers.{refusal}
-use Rattle.cases.specs.Cases.{byRulesIn, byTableIn, askRow, Outcome, place, lentFor, simple, stacklessDouble, oneTransition, char, int, double, Case, _⟹_}
+use Rattle.cases.specs.Cases.{byRulesIn, byTableIn, askRow, judge, place, lentFor, refused, clean, simple, stacklessDouble, oneTransition, char, int, double, Case, _⟹_}
 
 -- A kind that S does not have.
 abbrev pub unknown : ℕ
 unknown = 3
-
--- A refusal that leaves the lent memory as it was.
-abbrev pub refuses : ℕ → ℕ → ℕ → List ℕ → Outcome
-refuses number position fault lent = record { said = record { number = number; fault = fault; count = position; value = 0 }; bytes = lent }
 
 -- 401 arguments, the last of an unknown kind.
 abbrev pub tooMany : List ℕ
@@ -32,21 +28,27 @@ wrongForm = oneTransition 9 0 0 0
 abbrev pub wrongFormCut : List ℕ
 wrongFormCut = 0x00 ∷ 0x0B ∷ 0x01 ∷ 0x01 ∷ 0x04 ∷ 0x04 ∷ 0x01 ∷ 0x04 ∷ 0x04 ∷ 0x01 ∷ 9 ∷ 0 ∷ 0 ∷ []
 
+-- Two states: the first gives stack bytes and stays; the second, which no list reaches, has no place.
+abbrev pub deadRow : List ℕ
+deadRow = 0x00 ∷ 0x10 ∷ 0x01 ∷ 0x01 ∷ 0x04 ∷ 0x04 ∷ 0x01 ∷ 0x04 ∷ 0x04 ∷ 0x02 ∷ 0x02 ∷ 0x00 ∷ 0x04 ∷ 0x00 ∷ 0x00 ∷ 0x00 ∷ 0x00 ∷ 0x00 ∷ []
+
 abbrev pub settled : List Case
 settled =
     -- 'placing: 8, 12, 9, 10': each before those behind it.
-    (byRulesIn simple tooMany [] ⟹ refuses 8 0 0 [])
-    ∷ (byRulesIn stacklessDouble bothWrong (255 ∷ []) ⟹ refuses 12 0 0 (255 ∷ []))
+    (byRulesIn simple tooMany [] ⟹ refused 8 0 0 [])
+    ∷ (byRulesIn stacklessDouble bothWrong (255 ∷ []) ⟹ refused 12 0 0 (255 ∷ []))
     -- 'so that 9 anywhere in the list comes before 10'.
-    ∷ (place stacklessDouble bothWrong ⟹ refuses 9 3 0 (lentFor bothWrong))
-    ∷ (place stacklessDouble (char ∷ double ∷ double ∷ int ∷ []) ⟹ refuses 10 2 1 (lentFor (char ∷ double ∷ double ∷ int ∷ [])))
+    ∷ (place stacklessDouble bothWrong ⟹ refused 9 3 0 (lentFor bothWrong))
+    ∷ (place stacklessDouble (char ∷ double ∷ double ∷ int ∷ []) ⟹ refused 10 2 1 (lentFor (char ∷ double ∷ double ∷ int ∷ [])))
     -- Fault 2 before fault 3: the second argument's register was given, and is too small for it; alone it has fault 3.
-    ∷ (byTableIn shared (0 ∷ 1 ∷ []) (lentFor (0 ∷ 1 ∷ [])) ⟹ refuses 10 1 2 (lentFor (0 ∷ 1 ∷ [])))
-    ∷ (byTableIn shared (1 ∷ []) (lentFor (1 ∷ [])) ⟹ refuses 10 0 3 (lentFor (1 ∷ [])))
+    ∷ (byTableIn shared (0 ∷ 1 ∷ []) (lentFor (0 ∷ 1 ∷ [])) ⟹ refused 10 1 2 (lentFor (0 ∷ 1 ∷ [])))
+    ∷ (byTableIn shared (1 ∷ []) (lentFor (1 ∷ [])) ⟹ refused 10 0 3 (lentFor (1 ∷ [])))
     -- Number 7 'when its four bytes are there', and 3 where one is missing.
-    ∷ (byTableIn wrongForm [] [] ⟹ refuses 7 0 0 [])
-    ∷ (byTableIn wrongFormCut [] [] ⟹ refuses 3 0 0 [])
+    ∷ (byTableIn wrongForm [] [] ⟹ refused 7 0 0 [])
+    ∷ (byTableIn wrongFormCut [] [] ⟹ refused 3 0 0 [])
+    -- 'Condemning a table for a bad row that no list reaches' is a misreading.
+    ∷ (judge deadRow ⟹ clean)
     -- Number 13, with the empty part; and the row of the one state that there is.
-    ∷ (askRow (oneTransition 2 0 4 0) 1 ⟹ refuses 13 0 0 [])
+    ∷ (askRow (oneTransition 2 0 4 0) 1 ⟹ refused 13 0 0 [])
     ∷ (askRow (oneTransition 2 0 4 0) 0 ⟹ record { said = refusal 0; bytes = 2 ∷ 0 ∷ 4 ∷ 0 ∷ [] })
     ∷ []

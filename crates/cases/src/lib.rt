@@ -1,1 +1,1 @@
-// Document 01's proved examples, P1 to P12: see specs/Cases.antt and proofs/Hold.antt. No code.
+// Document 01's examples, P1 to P12 and others, and the misreadings that they catch: see specs/ and proofs/. No code.

@@ -34,7 +34,7 @@ Right h kind (Registers first count) = ((r : ℕ) → HasRegister (Registers fir
 Right h kind (Stack offset count) = (count ≡ kind .size) × (offset .0 % kind .alignment ≡ 0)
 Right h kind Nowhere = ⊥
 
--- The place that the table t gives argument i of a list.
+-- The place that the table t gives argument i of a list. (Behind a faulty step this goes on as if it had none; such a list is wrong already.)
 abbrev pub placeOf : List ℕ → List ℕ → ℕ → Placement
 placeOf t ks i = getD (placesFrom (byTable (tableOf t) t) (byTable (tableOf t) t .begin) ks) i Nowhere
 

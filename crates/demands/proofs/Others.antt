@@ -1,8 +1,8 @@
--- Demand 1 of building, of judging and of a row: each number is given exactly when its line says, and a refusal writes nothing.
-use Prim.Native.Nat.{ℕ, zero, suc, _<_}
-use mathlib.Core.Path.{_≡_, refl, sym, ap, _∙_}
+-- Demand 1 of building, of judging, of a row and of one kind: each number is given exactly when its line says, and a refusal writes nothing.
+use Prim.Native.Nat.{ℕ, zero, suc, _≤_, _<_}
+use mathlib.Core.Path.{_≡_, refl, sym, ap, subst, _∙_}
 use mathlib.Core.Logic.{inl, inr, _↔_, Iff·rfl, Iff·trans, Iff·and}
-use mathlib.Core.List.{List, []}
+use mathlib.Core.List.{List, [], _∷_}
 use native.Mathlib.Nat.{eq-zero-or-pos}
 use native.Mathlib.Decide.{decLt}
 use native.Mathlib.Omega.{arith}
@@ -13,18 +13,21 @@ use Rattle.convention.specs.declared.Building.{Building}
 use Rattle.convention.specs.declared.Judging.{Judging}
 use Rattle.convention.specs.declared.Judging.the-variants.{Clean, Fault}
 use Rattle.convention.specs.Numbers.{stateLimit, orElse, unless, buildingSays, judgingSays}
+use Rattle.convention.specs.Fields.{headOf}
 use Rattle.convention.specs.Sheets.{sheetNo, sheetOf}
 use Rattle.convention.specs.Tables.{tableNo, tableOf, statesOf, rowNo, rowGiven, row}
 use Rattle.convention.specs.Built.{builtStates, builtTable, statesNumber, buildNo, buildAnswer, build, buildWrites, buildMemory}
 use Rattle.convention.specs.Judged.{judgeRoom, judgeNo, Judges}
-use Rattle.convention.proofs.Numbers.{or-zero, or-here, or-at, or-past, or-on, unless-zero, unless-true, unless-here}
+use Rattle.convention.proofs.Numbers.{or-zero, or-here, or-at, or-past, or-on, or-keeps, unless-zero, unless-true, unless-here}
 use Rattle.convention.proofs.Sheets.{sheet-read}
-use Rattle.convention.proofs.Tables.{row-length, row-some}
+use Rattle.convention.proofs.Tables.{row-is, row-some}
 use Rattle.building.specs.Reached.{ReachMore}
 use Rattle.building.proofs.Reached.{eleven}
-use Rattle.demands.proofs.Tests.{test-passes, test-fails, test-other}
+use Rattle.teaselram.specs.declared.KindAnswer.{KindAnswer}
+use Rattle.teaselram.specs.Says.{kindGiven, kindNo, sheetKindSays, tableKindSays}
+use Rattle.demands.proofs.Tests.{test-passes, test-fails, test-other, test-keeps}
 use Rattle.demands.proofs.Reading.{sheet-refuses, table-refuses}
-use Rattle.demands.specs.Demands.{BuildingRefuses, JudgingRefuses, RowRefuses}
+use Rattle.demands.specs.Demands.{OneOf, BuildingRefuses, JudgingRefuses, RowRefuses, KindRefuses}
 
 -- ---- building
 
@@ -37,6 +40,10 @@ answer-built : (number n len : ℕ) → buildingSays (buildAnswer number n len) 
 answer-built zero n len = (λ e. refl, λ e. refl)
 answer-built (suc number) n len = (λ e. absurd (omega arith), λ e. absurd (omega arith))
 
+answer-others : (P : ℕ → Type 0) (number n len : ℕ) → P number → P (buildingSays (buildAnswer number n len) .number)
+answer-others P zero n len here = here
+answer-others P (suc number) n len here = here
+
 answer-writes : (number n len : ℕ) (table out : List ℕ) → 0 < buildingSays (buildAnswer number n len) .number → buildWrites number table out ≡ out
 answer-writes zero n len table out h = absurd (omega arith)
 answer-writes (suc number) n len table out h = refl
@@ -47,6 +54,9 @@ module _ (s out : List ℕ) where
 
   abbrev narrow : ℕ
   narrow = unless (leb (length (builtTable stateLimit (sheetOf s))) (length out)) 12
+
+  abbrev Listed : ℕ → Type 0
+  Listed = OneOf (0 ∷ sheetNo s ∷ 11 ∷ 12 ∷ [])
 
   -- Number 11 and its opposite, by what lists reach.
   more : sheetNo s ≡ 0 → many ≡ 11 ↔ ReachMore stateLimit (sheetOf s)
@@ -62,7 +72,7 @@ module _ (s out : List ℕ) where
   )
 
   pub building-refuses : BuildingRefuses s out (build stateLimit s (length out)) (buildMemory stateLimit s out)
-  unfolding build buildNo buildMemory
+  unfolding build buildNo buildMemory OneOf
   building-refuses =
       let low = sheet-refuses s .others in
       let number = buildNo stateLimit s (length out) in
@@ -88,6 +98,10 @@ module _ (s out : List ℕ) where
               (a .0, no-more (a .0) .0 (b .0), test-passes len _ 12 (lit< tt) .0 (b .1)),
           λ e. or-on _ _ (e .0) ∙ (or-on many narrow (no-more (e .0) .1 (e .1)) ∙ test-passes len _ 12 (lit< tt) .1 (e .2)),
         );
+        others =
+            answer-others Listed number n len
+            (or-keeps Listed (sheetNo s) (orElse many narrow) (inr (inl refl))
+            (or-keeps Listed many narrow (test-keeps Listed (leb n stateLimit) 11 (inl refl) (inr (inr (inl refl)))) (test-keeps Listed (leb len (length out)) 12 (inl refl) (inr (inr (inr (inl refl)))))));
         untouched = answer-writes number n len _ out;
       }
 
@@ -96,6 +110,9 @@ module _ (s out : List ℕ) where
 module _ (t out : List ℕ) where
   abbrev room : ℕ
   room = unless (leb (judgeRoom t) (length out)) 12
+
+  abbrev Judged : ℕ → Type 0
+  Judged = OneOf (0 ∷ tableNo stateLimit t ∷ 12 ∷ [])
 
   -- What an answer tells of the number.
   judged-refused : (answer : Judging) (after : List ℕ) → Judges stateLimit t out answer after → (k : ℕ) → 0 < k
@@ -119,7 +136,7 @@ module _ (t out : List ℕ) where
   judged-untouched (Judging.Refused number) after j h = j .2
 
   pub judging-refuses : (answer : Judging) (after : List ℕ) → Judges stateLimit t out answer after → JudgingRefuses t out answer after
-  unfolding judgeNo
+  unfolding judgeNo OneOf
   judging-refuses answer after j =
       let low = table-refuses stateLimit t .others in
       record {
@@ -133,6 +150,9 @@ module _ (t out : List ℕ) where
               (both .0, test-passes (judgeRoom t) _ 12 (lit< tt) .0 (both .1)),
           λ e. judged-number answer after j ∙ (or-on _ room (e .0) ∙ test-passes (judgeRoom t) _ 12 (lit< tt) .1 (e .1)),
         );
+        others =
+            rw (judged-number answer after j)
+            (or-keeps Judged (tableNo stateLimit t) room (inr (inl refl)) (test-keeps Judged (leb (judgeRoom t) (length out)) 12 (inl refl) (inr (inr (inl refl)))));
         untouched = judged-untouched answer after j;
       }
 
@@ -147,8 +167,11 @@ module _ (t : List ℕ) (state : ℕ) where
   abbrev beyond : ℕ
   beyond = unless (ltb state (statesOf t)) 13
 
+  abbrev Rows : ℕ → Type 0
+  Rows = OneOf (0 ∷ tableNo stateLimit t ∷ 13 ∷ [])
+
   pub row-refuses : RowRefuses t state (rowNo stateLimit t state) (row stateLimit t state)
-  unfolding rowNo row tableOf
+  unfolding rowNo row tableOf OneOf
   row-refuses =
       let low = table-refuses stateLimit t .others in
       record {
@@ -167,5 +190,37 @@ module _ (t : List ℕ) (state : ℕ) where
             | inr p ↦ p
           ],
         );
-        whole = row-length stateLimit t state;
+        others = or-keeps Rows (tableNo stateLimit t) beyond (inr (inl refl)) (test-keeps Rows (ltb state (statesOf t)) 13 (inl refl) (inr (inr (inl refl))));
+        bytes = row-is stateLimit t state;
       }
+
+-- ---- one kind
+
+-- The number of asking for a kind, and the number that its answer has.
+kind-refuses : (readNo m k : ℕ) → readNo ≤ 7 → KindRefuses readNo m k (kindNo readNo m k)
+kind-refuses readNo m k low = record {
+  reader = λ h. or-here readNo _ h;
+  nine =
+      Iff·trans (or-past readNo _ 9 (λ e. omega arith))
+      (Iff·and Iff·rfl (Iff·trans (unless-here (ltb k m) 9 (lit< tt)) (ltb-false k m, le-ltb k m)));
+  success = (
+    λ e. let both = or-zero readNo _ e in (both .0, ltb-true k m (unless-zero _ 9 (lit< tt) (both .1))),
+    λ e. or-on readNo _ (e .0) ∙ unless-true _ 9 (lt-ltb k m (e .1)),
+  );
+}
+
+kind-number : (number : ℕ) (answer : KindAnswer) → answer .number ≡ 0 → kindGiven number answer .number ≡ number
+kind-number zero answer e = e
+kind-number (suc number) answer e = refl
+
+pub sheet-kind-refuses : (s : List ℕ) (k : ℕ) → KindRefuses (sheetNo s) (sheetOf s .head .kinds) k (sheetKindSays s k .number)
+unfolding sheetKindSays sheetOf
+sheet-kind-refuses s k =
+    subst (KindRefuses (sheetNo s) (headOf s .kinds) k) (sym (kind-number (kindNo (sheetNo s) (headOf s .kinds) k) _ refl))
+    (kind-refuses (sheetNo s) (headOf s .kinds) k (omega (arith, sheet-refuses s .others)))
+
+pub table-kind-refuses : (t : List ℕ) (k : ℕ) → KindRefuses (tableNo stateLimit t) (tableOf t .head .kinds) k (tableKindSays stateLimit t k .number)
+unfolding tableKindSays tableOf
+table-kind-refuses t k =
+    subst (KindRefuses (tableNo stateLimit t) (headOf t .kinds) k) (sym (kind-number (kindNo (tableNo stateLimit t) (headOf t .kinds) k) _ refl))
+    (kind-refuses (tableNo stateLimit t) (headOf t .kinds) k (table-refuses stateLimit t .others))

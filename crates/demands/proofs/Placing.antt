@@ -15,12 +15,12 @@ use Rattle.convention.specs.declared.Placing.the-variants.{Placed, Unknown, Fau
 use Rattle.convention.specs.Numbers.{argumentLimit, orElse, unless, placingSays}
 use Rattle.convention.specs.Lists.{Steps, faultFrom, stopFrom, stateFrom, unknownAt, recordLength, walkAnswer, placingAnswer, placing, placingMemory}
 use Rattle.convention.specs.Judged.{KindsBelow}
-use Rattle.convention.proofs.Numbers.{or-zero, or-here, or-at, or-past, or-on}
+use Rattle.convention.proofs.Numbers.{or-zero, or-here, or-at, or-past, or-on, or-keeps}
 use Rattle.convention.proofs.Lists.{unknown-le, unknown-turn, unknown-hit, known-below, below-at, fault-append, stop-append, fault-hit, stop-hit}
 use Rattle.convention.proofs.Runs.{either}
 use Rattle.judging.proofs.Fronts.{stops}
-use Rattle.demands.proofs.Tests.{test-passes, test-fails, test-other}
-use Rattle.demands.specs.Demands.{FirstUnknown, FirstFault, Ready, PlacingRefuses}
+use Rattle.demands.proofs.Tests.{test-passes, test-fails, test-other, test-keeps}
+use Rattle.demands.specs.Demands.{OneOf, FirstUnknown, FirstFault, Ready, PlacingRefuses}
 
 -- Looking for an unknown kind finds the first.
 unknown-first : (m : ℕ) (ks : List ℕ) → unknownAt m ks < length ks → FirstUnknown m ks (unknownAt m ks)
@@ -150,20 +150,26 @@ module _ (m : ℕ) (M : Steps) (ks : List ℕ) where
   )
   behind-faulty (suc number) at fault = (λ e. absurd (let z : _≡_ {A = ℕ} 0 1 = cc in omega arith), λ e. absurd (omega arith))
 
-  behind-placed : (number : ℕ) → placingSays (placingAnswer number m M ks) .number ≡ 0 ↔ (number ≡ 0) × KindsBelow m ks × (faultFrom M (M .begin) ks ≡ 0)
+  behind-placed : (number : ℕ) → placingAnswer number m M ks ≡ Placed (length ks) (M .p (stateFrom M (M .begin) ks))
+      ↔ (number ≡ 0) × KindsBelow m ks × (faultFrom M (M .begin) ks ≡ 0)
   behind-placed zero = (
     λ e. elim walked [
-      | unknown at a f ↦ absurd (omega (arith, rw a at e))
-      | faulty at fault a b f ↦ absurd (omega (arith, rw a at e))
+      | unknown at a f ↦ absurd (let z : _≡_ {A = ℕ} 0 1 = cc in omega arith)
+      | faulty at fault a b f ↦ absurd (let z : _≡_ {A = ℕ} 0 1 = cc in omega arith)
       | placed a b f ↦ (refl, b, f)
     ],
     λ e. elim walked [
       | unknown at a f ↦ absurd (not-both at f (e .1))
       | faulty at fault a b f ↦ absurd (omega (arith, first-fault M ks at fault f, f .faulty, e .2))
-      | placed a b f ↦ rw a
+      | placed a b f ↦ a
     ],
   )
-  behind-placed (suc number) = (λ e. absurd (omega arith), λ e. absurd (omega arith))
+  behind-placed (suc number) = (λ e. absurd (let z : _≡_ {A = ℕ} 0 1 = cc in omega arith), λ e. absurd (omega arith))
+
+  -- No other number is given.
+  behind-others : (P : ℕ → Type 0) (number : ℕ) → P number → P 0 → P 9 → P 10 → P (placingSays (placingAnswer number m M ks) .number)
+  behind-others P zero here none nine ten = elim walked [ unknown at a f ↦ rw a nine | faulty at fault a b f ↦ rw a ten | placed a b f ↦ rw a none ]
+  behind-others P (suc number) here none nine ten = here
 
   behind-says : (number n : ℕ) (p : Offset) → placingAnswer number m M ks ≡ Placed n p → (n ≡ length ks) × (p ≡ M .p (stateFrom M (M .begin) ks))
   behind-says zero n p e = elim walked [
@@ -193,6 +199,9 @@ module _ (read m : ℕ) (low : read ≤ 7) (M : Steps) (ks out : List ℕ) where
     λ r. or-on _ _ (r .reads) ∙ (or-on _ _ (test-passes _ _ 8 (lit< tt) .1 (r .short)) ∙ test-passes _ _ 12 (lit< tt) .1 (r .room)),
   )
 
+  abbrev Listed : ℕ → Type 0
+  Listed = OneOf (0 ∷ read ∷ 8 ∷ 12 ∷ 9 ∷ 10 ∷ [])
+
   few-narrow : orElse many narrow ≡ 12 ↔ (length ks ≤ argumentLimit) × (length out < recordLength * length ks)
   few-narrow =
       Iff·trans (or-past many narrow 12 (test-other (leb (length ks) argumentLimit) 8 12 (lit< tt) (λ e. omega arith)))
@@ -206,7 +215,7 @@ module _ (read m : ℕ) (low : read ≤ 7) (M : Steps) (ks out : List ℕ) where
   placing-untouched (Placing.Refused number) h = refl
 
   pub placing-refuses : PlacingRefuses read m M ks out (placing argumentLimit read m M ks (length out)) (placingMemory (placing argumentLimit read m M ks (length out)) M ks out)
-  unfolding placing
+  unfolding placing OneOf
   placing-refuses = record {
     reader = λ h. rw (or-here read (orElse many narrow) h) (behind-refused m M ks read read h .1 refl);
     eight =
@@ -222,6 +231,13 @@ module _ (read m : ℕ) (low : read ≤ 7) (M : Steps) (ks out : List ℕ) where
     nine = λ at. Iff·trans (behind-unknown m M ks first at) (Iff·and ready Iff·rfl);
     ten = λ at fault. Iff·trans (behind-faulty m M ks first at fault) (λ e. (ready .0 (e .0), e .1, e .2), λ e. (ready .1 (e .0), e .1, e .2));
     success = Iff·trans (behind-placed m M ks first) (λ e. (ready .0 (e .0), e .1, e .2), λ e. (ready .1 (e .0), e .1, e .2));
+    others =
+        behind-others m M ks Listed first
+        (or-keeps Listed read (orElse many narrow) (inr (inl refl))
+        (or-keeps Listed many narrow (test-keeps Listed (leb (length ks) argumentLimit) 8 (inl refl) (inr (inr (inl refl)))) (test-keeps Listed (leb (recordLength * length ks) (length out)) 12 (inl refl) (inr (inr (inr (inl refl)))))))
+        (inl refl)
+        (inr (inr (inr (inr (inl refl)))))
+        (inr (inr (inr (inr (inr (inl refl))))));
     untouched = placing-untouched _;
   }
 

@@ -19,3 +19,8 @@ test-fails a b n h = Iff·trans (unless-here (leb a b) n h) (leb-false a b, lt-l
 pub test-other : (t : Bool) (n k : ℕ) → 0 < k → (n ≡ k → ⊥) → unless t n ≡ k → ⊥
 test-other true n k h other e = omega arith
 test-other false n k h other e = other e
+
+-- What holds of 0 and of its number holds of what it gives.
+pub test-keeps : (P : ℕ → Type 0) (b : Bool) (n : ℕ) → P 0 → P n → P (unless b n)
+test-keeps P true n p q = p
+test-keeps P false n p q = q

@@ -1,10 +1,16 @@
 -- The three demands, about the definitions that the public calls' contracts cite. Each demand is a record, sentence by sentence; proofs/Demands.antt proves them.
--- s is a sheet's bytes, t a table's, ks a list of kinds, out the caller's output before a call and `after` the output afterwards. How to read a line: `A ↔ B` is A exactly
--- when B, `A × B` A and B, `A ⊎ B` A or B, `A → ⊥` not A; `(x : T) → A` is A for every x, `A → B` B where A holds; `getD l i d` is what stands at i in l.
+-- s is a sheet's bytes, t a table's, ks a list of kinds, out the caller's output before a call and `after` the output afterwards; all of them are any lists of numbers.
+--
+-- How to read a line: `A ↔ B` is A exactly when B; `A × B` A and B; `A ⊎ B` A or B; `A → ⊥` not A; `A → B` B where A holds; `(x : T) → A` A for every x; `(x : T) × A` A for some
+-- x; `getD l i d` what stands at i in the list l, d past its end; `take n l` its first n, `drop n l` the others; `x .f` field f of x; `r ≡ Placed n p` that the answer r is `Placed`.
+--
+-- Which definition is which call's, by its contract (docs/CONTRACTS.md): read_sheet `readSheet`, read_table `readTable`, row `row` with `rowNo`, place_by_rules `placeByRules` with
+-- `rulesMemory` for the output, place_by_table `placeByTable` with `tableMemory`, build `build` with `buildMemory`, judge `Judges`; sheet_kind and table_kind of the static library
+-- `sheetKindSays` and `tableKindSays`. `Steps` is either way of placing: `byRules` and `byTable`. `Before` is shorter, or as long and earlier in kind order.
 use Prim.Native.Nat.{ℕ, _-_, _*_, _≤_, _<_}
 use mathlib.Core.Path.{_≡_}
 use mathlib.Core.Logic.{_⊎_, _↔_}
-use mathlib.Core.List.{List, []}
+use mathlib.Core.List.{List, [], _∷_}
 use lib.ListN.{length, getD, take, drop}
 use Rattle.convention.specs.declared.Offset.{Offset}
 use Rattle.convention.specs.declared.Placement.{Placement}
@@ -15,23 +21,31 @@ use Rattle.convention.specs.declared.Building.{Building}
 use Rattle.convention.specs.declared.Building.the-variants.{Built}
 use Rattle.convention.specs.declared.Judging.{Judging}
 use Rattle.convention.specs.declared.Judging.the-variants.{Clean, Fault}
-use Rattle.convention.specs.Numbers.{stateLimit, argumentLimit, placingSays, buildingSays, judgingSays}
+use Rattle.convention.specs.Numbers.{stateLimit, argumentLimit, readingNo, placingSays, buildingSays, judgingSays}
 use Rattle.convention.specs.Fields.{lengthField, versionAt}
-use Rattle.convention.specs.Sheets.{sheetNo, sheetOf}
-use Rattle.convention.specs.Tables.{tableNo, tableOf, statesOf, rowLength, rowNo, row}
+use Rattle.convention.specs.Sheets.{sheetNo, sheetOf, readSheet}
+use Rattle.convention.specs.Tables.{tableNo, tableOf, readTable, rowLength, rowAt, rowNo, row}
 use Rattle.convention.specs.Lists.{Steps, faultFrom, stopFrom, stateFrom, placesFrom, recordOf, recordLength}
 use Rattle.convention.specs.Rules.{byRules, placeByRules, rulesMemory}
 use Rattle.convention.specs.Walked.{byTable, placeByTable, tableMemory}
 use Rattle.convention.specs.Built.{builtTable, build, buildMemory}
 use Rattle.convention.specs.Orders.{Before}
 use Rattle.convention.specs.Judged.{KindsBelow, listFault, Judges}
-use Rattle.convention.specs.WellPlaced.{placeOf, WellPlaced}
+use Rattle.convention.specs.WellPlaced.{WellPlaced}
+use Rattle.convention.specs.Promised.{SheetRead, TableRead}
 use Rattle.building.specs.Reached.{ReachMore}
+use Rattle.teaselram.specs.Says.{sheetKindSays, tableKindSays}
 
 -- ---- Demand 1. 'Every entry point takes arbitrary bytes and any list of kinds, always ends, and checks for itself.' That is what it means that a function without
 -- a `requires` is proved. 'Each refusal is one of document 01's numbers, given exactly when the document says, and writes nothing to the caller's output.'
 
--- Reading, of a sheet (no number above 6) and of a table (none above 7). Numbers 3 to 7 are 01's words already: a file's number is defined by its bytes from left to right.
+-- A number is one of several.
+unfoldable pub OneOf : List ℕ → ℕ → Type 0
+OneOf [] n = ⊥
+OneOf (k ∷ ks) n = (n ≡ k) ⊎ OneOf ks n
+
+-- Reading, of a sheet (no number above 6) and of a table (none above 7). Numbers 3 to 7 are defined in 01's words, by the bytes from left to right: `Fields`, `Sheets` and
+-- `Tables` of crates/convention/specs.
 pub record ReadingRefuses (file : List ℕ) (most number : ℕ) : Type 0 where
   pub one : number ≡ 1 ↔ (length file < 2) ⊎ (lengthField file ≡ length file - 2 → ⊥)
   pub two : number ≡ 2 ↔ (2 ≤ length file) × (lengthField file ≡ length file - 2) × (versionAt < length file) × (getD file versionAt 0 ≡ 1 → ⊥)
@@ -51,19 +65,20 @@ pub record FirstFault (M : Steps) (ks : List ℕ) (at fault : ℕ) : Type 0 wher
   pub before : faultFrom M (M .begin) (take at ks) ≡ 0
 
 -- The file was read, the list is not too long, and there is room for its records.
-pub record Ready (read : ℕ) (ks out : List ℕ) : Type 0 where
-  pub reads : read ≡ 0
+pub record Ready (readNo : ℕ) (ks out : List ℕ) : Type 0 where
+  pub reads : readNo ≡ 0
   pub short : length ks ≤ argumentLimit
   pub room : recordLength * length ks ≤ length out
 
--- Placing a list, by the rules of a sheet or by a table of m kinds, of which reading gave a number.
-pub record PlacingRefuses (read m : ℕ) (M : Steps) (ks out : List ℕ) (answer : Placing) (after : List ℕ) : Type 0 where
-  pub reader : 0 < read → answer ≡ Placing.Refused read
-  pub eight : answer ≡ Placing.Refused 8 ↔ (read ≡ 0) × (argumentLimit < length ks)
-  pub twelve : answer ≡ Placing.Refused 12 ↔ (read ≡ 0) × (length ks ≤ argumentLimit) × (length out < recordLength * length ks)
-  pub nine : (at : ℕ) → answer ≡ Unknown at ↔ Ready read ks out × FirstUnknown m ks at
-  pub ten : (at fault : ℕ) → answer ≡ Faulty at fault ↔ Ready read ks out × KindsBelow m ks × FirstFault M ks at fault
-  pub success : placingSays answer .number ≡ 0 ↔ Ready read ks out × KindsBelow m ks × (faultFrom M (M .begin) ks ≡ 0)
+-- Placing a list, by the rules of a sheet or by a table of m kinds, of which reading gave a number. Success answers the number of arguments and the final p.
+pub record PlacingRefuses (readNo m : ℕ) (M : Steps) (ks out : List ℕ) (answer : Placing) (after : List ℕ) : Type 0 where
+  pub reader : 0 < readNo → answer ≡ Placing.Refused readNo
+  pub eight : answer ≡ Placing.Refused 8 ↔ (readNo ≡ 0) × (argumentLimit < length ks)
+  pub twelve : answer ≡ Placing.Refused 12 ↔ (readNo ≡ 0) × (length ks ≤ argumentLimit) × (length out < recordLength * length ks)
+  pub nine : (at : ℕ) → answer ≡ Unknown at ↔ Ready readNo ks out × FirstUnknown m ks at
+  pub ten : (at fault : ℕ) → answer ≡ Faulty at fault ↔ Ready readNo ks out × KindsBelow m ks × FirstFault M ks at fault
+  pub success : answer ≡ Placed (length ks) (M .p (stateFrom M (M .begin) ks)) ↔ Ready readNo ks out × KindsBelow m ks × (faultFrom M (M .begin) ks ≡ 0)
+  pub others : OneOf (0 ∷ readNo ∷ 8 ∷ 12 ∷ 9 ∷ 10 ∷ []) (placingSays answer .number)
   pub untouched : 0 < placingSays answer .number → after ≡ out
 
 -- Building.
@@ -74,6 +89,7 @@ pub record BuildingRefuses (s out : List ℕ) (answer : Building) (after : List 
       ↔ (sheetNo s ≡ 0) × (ReachMore stateLimit (sheetOf s) → ⊥) × (length out < length (builtTable stateLimit (sheetOf s)))
   pub success : buildingSays answer .number ≡ 0
       ↔ (sheetNo s ≡ 0) × (ReachMore stateLimit (sheetOf s) → ⊥) × (length (builtTable stateLimit (sheetOf s)) ≤ length out)
+  pub others : OneOf (0 ∷ sheetNo s ∷ 11 ∷ 12 ∷ []) (buildingSays answer .number)
   pub untouched : 0 < buildingSays answer .number → after ≡ out
 
 -- Judging: 'given room for 2N kinds'.
@@ -81,20 +97,32 @@ pub record JudgingRefuses (t out : List ℕ) (answer : Judging) (after : List �
   pub reader : 0 < tableNo stateLimit t → answer ≡ Judging.Refused (tableNo stateLimit t)
   pub twelve : answer ≡ Judging.Refused 12 ↔ (tableNo stateLimit t ≡ 0) × (length out < 2 * tableOf t .states)
   pub success : judgingSays answer .number ≡ 0 ↔ (tableNo stateLimit t ≡ 0) × (2 * tableOf t .states ≤ length out)
+  pub others : OneOf (0 ∷ tableNo stateLimit t ∷ 12 ∷ []) (judgingSays answer .number)
   pub untouched : 0 < judgingSays answer .number → after ≡ out
 
--- A row: 'A row is never empty, so an empty part means refused.'
+-- A row: 'the caller's own bytes of that state, 4m of them'; 'A row is never empty, so an empty part means refused.'
 pub record RowRefuses (t : List ℕ) (state number : ℕ) (part : List ℕ) : Type 0 where
   pub reader : 0 < tableNo stateLimit t → number ≡ tableNo stateLimit t
-  pub thirteen : number ≡ 13 ↔ (tableNo stateLimit t ≡ 0) × (statesOf t ≤ state)
-  pub success : number ≡ 0 ↔ (tableNo stateLimit t ≡ 0) × (state < statesOf t)
+  pub thirteen : number ≡ 13 ↔ (tableNo stateLimit t ≡ 0) × (tableOf t .states ≤ state)
+  pub success : number ≡ 0 ↔ (tableNo stateLimit t ≡ 0) × (state < tableOf t .states)
+  pub others : OneOf (0 ∷ tableNo stateLimit t ∷ 13 ∷ []) number
   pub empty : 0 < number ↔ part ≡ []
-  pub whole : number ≡ 0 → length part ≡ rowLength (tableOf t .head .kinds)
+  pub bytes : number ≡ 0 → part ≡ take (rowLength (tableOf t .head .kinds)) (drop (rowAt (tableOf t .head .kinds) state) t)
 
--- Demand 1, of every call; and 'the final p, which is at most 31,600'.
+-- One kind of a file of m kinds, of which reading gave a number: 9 where there is none, as placing a list of that one kind would answer.
+pub record KindRefuses (readNo m k number : ℕ) : Type 0 where
+  pub reader : 0 < readNo → number ≡ readNo
+  pub nine : number ≡ 9 ↔ (readNo ≡ 0) × (m ≤ k)
+  pub success : number ≡ 0 ↔ (readNo ≡ 0) × (k < m)
+
+-- Demand 1, of every call. A file that was read has the values that 01 allows (`SheetRead`, `TableRead`); 'the final p is at most 31,600'.
 pub record Demand1 : Type 0 where
-  pub sheets : (s : List ℕ) → ReadingRefuses s 6 (sheetNo s)
-  pub tables : (t : List ℕ) → ReadingRefuses t 7 (tableNo stateLimit t)
+  pub sheets : (s : List ℕ) → ReadingRefuses s 6 (readingNo (readSheet s .reading))
+  pub tables : (t : List ℕ) → ReadingRefuses t 7 (readingNo (readTable stateLimit t .reading))
+  pub sheet-values : (s : List ℕ) → readingNo (readSheet s .reading) ≡ 0 → SheetRead (readSheet s .sheet)
+  pub table-values : (t : List ℕ) → readingNo (readTable stateLimit t .reading) ≡ 0 → TableRead stateLimit (readTable stateLimit t .table) t
+  pub sheet-kinds : (s : List ℕ) (k : ℕ) → KindRefuses (sheetNo s) (sheetOf s .head .kinds) k (sheetKindSays s k .number)
+  pub table-kinds : (t : List ℕ) (k : ℕ) → KindRefuses (tableNo stateLimit t) (tableOf t .head .kinds) k (tableKindSays stateLimit t k .number)
   pub by-rules : (s ks out : List ℕ) → PlacingRefuses (sheetNo s) (sheetOf s .head .kinds) (byRules (sheetOf s)) ks out
       (placeByRules argumentLimit s ks (length out)) (rulesMemory argumentLimit s ks out)
   pub by-table : (t ks out : List ℕ) → PlacingRefuses (tableNo stateLimit t) (tableOf t .head .kinds) (byTable (tableOf t) t) ks out
@@ -105,6 +133,9 @@ pub record Demand1 : Type 0 where
   pub p-by-rules : (s ks : List ℕ) (room n : ℕ) (p : Offset) → placeByRules argumentLimit s ks room ≡ Placed n p → p .0 ≤ 31600
   pub p-by-table : (t ks : List ℕ) (room n : ℕ) (p : Offset) → placeByTable stateLimit argumentLimit t ks room ≡ Placed n p → p .0 ≤ 31600
 
+-- ---- Demand 2. 'A placement is the one that 01's rules give, argument by argument, down to the byte. A table built from a sheet gives that same placement, or stops
+-- at the same argument, for every list of kinds of any length.'
+
 -- A list of the kinds of a sheet, and of a table: each kind number is below m.
 abbrev pub OfSheet : List ℕ → List ℕ → Type 0
 OfSheet s ks = KindsBelow (sheetOf s .head .kinds) ks
@@ -112,51 +143,56 @@ OfSheet s ks = KindsBelow (sheetOf s .head .kinds) ks
 abbrev pub OfTable : List ℕ → List ℕ → Type 0
 OfTable t ks = KindsBelow (tableOf t .head .kinds) ks
 
--- ---- Demand 2. 'A placement is the one that 01's rules give, argument by argument, down to the byte. A table built from a sheet gives that same placement, or stops
--- at the same argument, for every list of kinds of any length.'
+-- Either way of placing: the place that it gives argument i of a list; where it stops, at its first faulty step or behind the list; p behind the list.
+abbrev pub placeBy : Steps → List ℕ → ℕ → Placement
+placeBy M ks i = getD (placesFrom M (M .begin) ks) i Nowhere
 
--- The place that the rules of a sheet give argument i of a list.
-abbrev pub rulesPlaceOf : List ℕ → List ℕ → ℕ → Placement
-rulesPlaceOf s ks i = getD (placesFrom (byRules (sheetOf s)) (byRules (sheetOf s) .begin) ks) i Nowhere
+abbrev pub stopBy : Steps → List ℕ → ℕ
+stopBy M ks = stopFrom M (M .begin) ks
 
--- Where the walk over a list stops, by the rules and by a table: at its first faulty step, or behind the list.
-abbrev pub rulesStop : List ℕ → List ℕ → ℕ
-rulesStop s ks = stopFrom (byRules (sheetOf s)) (byRules (sheetOf s) .begin) ks
+abbrev pub pBy : Steps → List ℕ → Offset
+pBy M ks = M .p (stateFrom M (M .begin) ks)
 
-abbrev pub tableStop : List ℕ → List ℕ → ℕ
-tableStop t ks = stopFrom (byTable (tableOf t) t) (byTable (tableOf t) t .begin) ks
+-- The rules of a sheet, and a table.
+abbrev pub rules : List ℕ → Steps
+rules s = byRules (sheetOf s)
 
--- Where the walk by the rules ends: p behind the list.
-abbrev pub rulesP : List ℕ → List ℕ → Offset
-rulesP s ks = stateFrom (byRules (sheetOf s)) (byRules (sheetOf s) .begin) ks .p
+abbrev pub table : List ℕ → Steps
+table t = byTable (tableOf t) t
 
-abbrev pub tableP : List ℕ → List ℕ → Offset
-tableP t ks = stateFrom (byTable (tableOf t) t) (byTable (tableOf t) t .begin) ks .p
-
--- A list that was placed: the answer is its length and the rules' p, the record of each argument is that of the place that the rules give it, and the bytes behind the
--- records are left.
-pub record DownToTheByte (s ks out : List ℕ) (n : ℕ) (p : Offset) (after : List ℕ) : Type 0 where
+-- A list that was placed: the answer is its length and p, the record of each argument is that of its place, and the bytes behind the records are left.
+pub record DownToTheByte (M : Steps) (ks out : List ℕ) (n : ℕ) (p : Offset) (after : List ℕ) : Type 0 where
   pub count : n ≡ length ks
-  pub final : p ≡ rulesP s ks
-  pub records : (i : ℕ) → i < length ks → take recordLength (drop (recordLength * i) after) ≡ recordOf (rulesPlaceOf s ks i)
+  pub final : p ≡ pBy M ks
+  pub records : (i : ℕ) → i < length ks → take recordLength (drop (recordLength * i) after) ≡ recordOf (placeBy M ks i)
   pub others : drop (recordLength * length ks) after ≡ drop (recordLength * length ks) out
 
--- The bytes t that building a sheet s wrote give the same places as the rules, stop where they stop and end at the same p; and the two calls give the same answer and leave the same output.
+-- A table t gives the same places as the rules of s, stops where they stop and ends at the same p; and the two calls give the same answer and leave the same output.
 pub record PlacesAlike (s t : List ℕ) : Type 0 where
-  pub stop : (ks : List ℕ) → OfSheet s ks → tableStop t ks ≡ rulesStop s ks
-  pub places : (ks : List ℕ) → OfSheet s ks → (i : ℕ) → i < rulesStop s ks → placeOf t ks i ≡ rulesPlaceOf s ks i
-  pub final : (ks : List ℕ) → OfSheet s ks → rulesStop s ks ≡ length ks → tableP t ks ≡ rulesP s ks
+  pub stop : (ks : List ℕ) → OfSheet s ks → stopBy (table t) ks ≡ stopBy (rules s) ks
+  pub places : (ks : List ℕ) → OfSheet s ks → (i : ℕ) → i < stopBy (rules s) ks → placeBy (table t) ks i ≡ placeBy (rules s) ks i
+  pub final : (ks : List ℕ) → OfSheet s ks → stopBy (rules s) ks ≡ length ks → pBy (table t) ks ≡ pBy (rules s) ks
   pub answer : (ks : List ℕ) (room : ℕ) → placeByTable stateLimit argumentLimit t ks room ≡ placeByRules argumentLimit s ks room
   pub memory : (ks out : List ℕ) → tableMemory stateLimit argumentLimit t ks out ≡ rulesMemory argumentLimit s ks out
 
--- Demand 2. Building wrote the first len bytes of the output.
+-- The first len bytes of the output are a table of n states that can be read and places like its sheet; the bytes behind it are left.
+pub record BuiltBytes (s out : List ℕ) (n len : ℕ) (after : List ℕ) : Type 0 where
+  pub long : length (take len after) ≡ len
+  pub readable : tableNo stateLimit (take len after) ≡ 0
+  pub states : tableOf (take len after) .states ≡ n
+  pub alike : PlacesAlike s (take len after)
+  pub others : drop len after ≡ drop len out
+
+-- Demand 2, of the placing calls and of building.
 pub record Demand2 : Type 0 where
-  pub placed : (s ks out : List ℕ) (n : ℕ) (p : Offset) → placeByRules argumentLimit s ks (length out) ≡ Placed n p
-      → DownToTheByte s ks out n p (rulesMemory argumentLimit s ks out)
-  pub built : (s out : List ℕ) (n len : ℕ) → build stateLimit s (length out) ≡ Built n len → PlacesAlike s (take len (buildMemory stateLimit s out))
+  pub by-rules : (s ks out : List ℕ) (n : ℕ) (p : Offset) → placeByRules argumentLimit s ks (length out) ≡ Placed n p
+      → DownToTheByte (rules s) ks out n p (rulesMemory argumentLimit s ks out)
+  pub by-table : (t ks out : List ℕ) (n : ℕ) (p : Offset) → placeByTable stateLimit argumentLimit t ks (length out) ≡ Placed n p
+      → DownToTheByte (table t) ks out n p (tableMemory stateLimit argumentLimit t ks out)
+  pub built : (s out : List ℕ) (n len : ℕ) → build stateLimit s (length out) ≡ Built n len → BuiltBytes s out n len (buildMemory stateLimit s out)
 
 -- ---- Demand 3. 'A table that can be read, given room for 2N kinds, is passed exactly when no finite list of its kinds goes wrong. One that fails comes back with a list
--- that does go wrong; no shorter list does, and no list of that length earlier in kind order does.' A list goes wrong where it is not `WellPlaced`.
+-- that does go wrong; no shorter list does, and no list of that length earlier in kind order does.' A list goes right where it is `WellPlaced`, and wrong where it is not.
 
 -- The list goes wrong, and each list of the table's kinds that is shorter, or as long and earlier, goes right.
 pub record FirstWrong (t ks : List ℕ) : Type 0 where
@@ -164,14 +200,22 @@ pub record FirstWrong (t ks : List ℕ) : Type 0 where
   pub wrong : WellPlaced t ks → ⊥
   pub first : (ks′ : List ℕ) → OfTable t ks′ → Before ks′ ks → WellPlaced t ks′
 
--- The answer is clean exactly when every list goes right; or it is a fault, and the first so many bytes of the output are the first list that goes wrong.
-pub record JudgedRight (t : List ℕ) (answer : Judging) (after : List ℕ) : Type 0 where
+-- A fault with a list of n kinds: the first n bytes of the output are the first list that goes wrong, the fault is its, and the other bytes are left.
+pub record ComesBack (t out : List ℕ) (fault n : ℕ) (after : List ℕ) : Type 0 where
+  pub list : FirstWrong t (take n after)
+  pub long : length (take n after) ≡ n
+  pub says : fault ≡ listFault t (take n after)
+  pub others : drop n after ≡ drop n out
+
+-- The answer is clean exactly when every list goes right, and then nothing is written; or it is a fault, with its list.
+pub record JudgedRight (t out : List ℕ) (answer : Judging) (after : List ℕ) : Type 0 where
   pub passed : answer ≡ Clean ↔ ((ks : List ℕ) → OfTable t ks → WellPlaced t ks)
-  pub failed : (fault n : ℕ) → answer ≡ Fault fault n → FirstWrong t (take n after)
+  pub untouched : answer ≡ Clean → after ≡ out
+  pub failed : (fault n : ℕ) → answer ≡ Fault fault n → ComesBack t out fault n after
   pub either : (answer ≡ Clean) ⊎ ((fault n : ℕ) × (answer ≡ Fault fault n))
 
 -- Demand 3, of whatever answer and output judging gives; and of 01's faults: a list has none exactly where it goes right.
 pub record Demand3 : Type 0 where
   pub judged : (t out : List ℕ) (answer : Judging) (after : List ℕ) → tableNo stateLimit t ≡ 0 → 2 * tableOf t .states ≤ length out
-      → Judges stateLimit t out answer after → JudgedRight t answer after
+      → Judges stateLimit t out answer after → JudgedRight t out answer after
   pub faults : (t ks : List ℕ) → tableNo stateLimit t ≡ 0 → OfTable t ks → listFault t ks ≡ 0 ↔ WellPlaced t ks

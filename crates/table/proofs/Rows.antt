@@ -21,7 +21,8 @@ use Rattle.convention.specs.Tables.{statesAt, transitionOf, isTransition, trans
 use Rattle.convention.specs.Promised.{TableRead}
 use Rattle.convention.proofs.Numbers.{or-first, or-later}
 use Rattle.convention.proofs.Tables.{row-refused, row-part, row-is, row-start}
-use Rattle.table.specs.Asked.{InTable, behind, RowPart}
+use Rattle.table.specs.Asked.{InTable}
+use Rattle.table.specs.Rows.{behind, RowPart}
 
 -- The number of a transition whose four bytes are there.
 pub transition-number : (h : Head) (states : ℕ) (t : List ℕ) (at : ℕ) (x : Transition) (right b : Bool)

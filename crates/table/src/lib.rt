@@ -17,7 +17,8 @@ ghost use Rattle.convention.specs.Numbers.{stateLimit, orElse};
 ghost use Rattle.convention.specs.Fields.{fieldNo, kindsAt, leftOverNo};
 ghost use Rattle.convention.specs.Tables.{tableKindOf, tableKindsNo, tableKindsOf, blankTableKind, statesAt, transitionOf, isTransition, transitionNo, transitionsNo, rowsAt, rowAt, tableNo, tableOf, blankTable, readTable, transition, rowNo};
 ghost use Rattle.convention.specs.Promised.{TableRead};
-ghost use Rattle.table.specs.Asked.{KindsThere, InTable, RowPart};
+ghost use Rattle.table.specs.Asked.{KindsThere, InTable};
+ghost use Rattle.table.specs.Rows.{RowPart};
 
 // The number of the kinds, 5 or 3 for the first that is wrong or missing, in a table that is at least as long as its head.
 // Each kind is parsed from the part of the table that starts at its first byte.

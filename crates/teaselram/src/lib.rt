@@ -296,6 +296,7 @@ pub extern "C" fn teaselram_row(table: &[u8], state: u64) -> Answer
     if length == 0 {
         return refusal(table::row_no(table, state as usize));
     }
+    // A row has four bytes a kind, and lies `row_at` bytes behind the table's first.
     let kinds = (length / 4) as u8;
     let start = table::row_at(kinds, state as usize);
     Answer {
