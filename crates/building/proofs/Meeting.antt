@@ -49,28 +49,24 @@ module _ (h : Head) (kind : SheetKind) (a : Allocation) (place : Placement) (nex
   unfolding metFrom
   passes-nowhere f = record { passes = λ sheet k eh ek l i holds. rw (add-one, metFrom, ← goes sheet k eh ek, f) holds }
 
--- State i gone through, with so many of its kinds left.
-module _ (sheet : Sheet) (i left : ℕ) (a : Allocation) (states : List ℕ) (met : Met) where
-  pub visiting-begin : VisitAsks sheet states met i → Visiting sheet a i (sheet .head .kinds) states met
+-- State i gone through, before kind k of it.
+module _ (sheet : Sheet) (i k : ℕ) (a : Allocation) (states : List ℕ) (met : Met) where
+  pub visiting-begin : VisitAsks sheet states met i → Visiting sheet a i 0 states met
   unfolding metFrom
-  visiting-begin asks =
-      let none : sheet .head .kinds - sheet .head .kinds ≡ 0 = omega arith in
-      record { within = omega arith; holds = rw none (asks .holds) }
+  visiting-begin asks = record { within = omega arith; holds = asks .holds }
 
-  pub visiting-on : (r : Met) (after : List ℕ) → Visiting sheet a i left states met → 0 < left
-      → Passes (sheet .head) (sheetKind sheet (sheet .head .kinds - left)) a states met r after → Visiting sheet a i (left - 1) after r
-  visiting-on r after visiting h passes =
-      let one : sheet .head .kinds - (left - 1) ≡ sheet .head .kinds - left + 1 = omega (arith, visiting .within) in
-      record { within = omega (arith, visiting .within); holds = rw one (passes .passes sheet _ refl refl _ i (visiting .holds)) }
+  pub visiting-on : (r : Met) (after : List ℕ) → Visiting sheet a i k states met → k < sheet .head .kinds
+      → Passes (sheet .head) (sheetKind sheet k) a states met r after → Visiting sheet a i (k + 1) after r
+  visiting-on r after visiting h passes = record { within = omega arith; holds = passes .passes sheet k refl refl _ i (visiting .holds) }
 
   -- Behind the last kind.
-  pub visiting-end : (more : Met) (after : List ℕ) → VisitAsks sheet states met i → StateAt states i a → Visiting sheet a i left after more
-      → left ≤ 0 → Holds sheet after more (metBefore (allocations sheet) (i + 1))
+  pub visiting-end : (more : Met) (after : List ℕ) → VisitAsks sheet states met i → StateAt states i a → Visiting sheet a i k after more
+      → sheet .head .kinds ≤ k → Holds sheet after more (metBefore (allocations sheet) (i + 1))
   unfolding metBefore through
   visiting-end more after asks from visiting h =
       let keeps = asks .holds .all (asks .whole) in
       let inside : i < length (metBefore (allocations sheet) i) = omega (arith, asks .inside, keeps .many) in
-      let last : sheet .head .kinds - left ≡ sheet .head .kinds = omega arith in
+      let last : k ≡ sheet .head .kinds = omega (arith, visiting .within) in
       let node = from .state sheet _ _ keeps (asks .inside) in
       rw (add-one, lt-ltb _ _ inside, through, node) (rw last at (visiting .holds))
 

@@ -1,5 +1,5 @@
 -- What the states that the builder keeps in memory have to do with the entries that the exploration meets.
-use Prim.Native.Nat.{ℕ, _+_, _-_, _≤_, _<_}
+use Prim.Native.Nat.{ℕ, _+_, _≤_, _<_}
 use mathlib.Core.Path.{_≡_}
 use mathlib.Core.Bool.{true, false}
 use mathlib.Core.List.{List}
@@ -76,10 +76,10 @@ pub record VisitAsks (sheet : Sheet) (states : List ℕ) (met : Met) (i : ℕ) :
   pub whole : met .over ≡ false
   pub inside : i < met .count
 
--- Half way through it, with so many kinds left.
-pub record Visiting (sheet : Sheet) (a : Allocation) (i left : ℕ) (states : List ℕ) (met : Met) : Type 0 where
-  pub within : left ≤ sheet .head .kinds
-  pub holds : Holds sheet states met (metFrom (allocations sheet) (metBefore (allocations sheet) i) a i (sheet .head .kinds - left))
+-- Half way through it, before kind k.
+pub record Visiting (sheet : Sheet) (a : Allocation) (i k : ℕ) (states : List ℕ) (met : Met) : Type 0 where
+  pub within : k ≤ sheet .head .kinds
+  pub holds : Holds sheet states met (metFrom (allocations sheet) (metBefore (allocations sheet) i) a i k)
 
 -- The states of a sheet that was read, in the room for as many as a table may have.
 pub record ExploreAsks (sheet : Sheet) (states : List ℕ) : Type 0 where

@@ -107,11 +107,11 @@ fn visit(sheet: Sheet, states: &mut [u32], met: Met, i: usize) -> Met
     let head = sheet.head;
     let kinds = head.kinds;
     let mut more = met;
-    let mut left = kinds;
-    while 0 < left {
-        let kind = sheet.kinds[(kinds - left) as usize];
+    let mut k: u8 = 0;
+    while k < kinds {
+        let kind = sheet.kinds[k as usize];
         more = pass(head, kind, from, states, more);
-        left -= 1;
+        k += 1;
     }
     more
 }
