@@ -25,6 +25,13 @@ pub record Reader : Type 1 where
   pub table : Table → List ℕ → Steps
   pub hunted : List ℕ → ℕ
 
+-- A way of placing with another state behind a step, and with another fault.
+abbrev pub withAfter : (M : Steps) → (M .State → ℕ → M .State) → Steps
+withAfter M after = record { State = M .State; begin = M .begin; place = M .place; fault = M .fault; after = after; p = M .p }
+
+abbrev pub withFault : (M : Steps) → (M .State → ℕ → ℕ) → Steps
+withFault M fault = record { State = M .State; begin = M .begin; place = M .place; fault = fault; after = M .after; p = M .p }
+
 -- As the definitions say it.
 abbrev pub asDefined : Reader
 asDefined = record { number = sheetNo; rules = byRules; table = byTable; hunted = judgeRoom }
@@ -45,14 +52,7 @@ skippedGone = record {
 abbrev pub forgetsP : Reader
 forgetsP = record {
   number = sheetNo;
-  rules = λ sheet. record {
-    State = byRules sheet .State;
-    begin = byRules sheet .begin;
-    place = byRules sheet .place;
-    fault = byRules sheet .fault;
-    after = λ s k. fromAllocation (allocation (sheet .head .modulus) (byRules sheet .after s k));
-    p = byRules sheet .p;
-  };
+  rules = λ sheet. withAfter (byRules sheet) (λ s k. fromAllocation (allocation (sheet .head .modulus) (byRules sheet .after s k)));
   table = byTable;
   hunted = judgeRoom;
 }
@@ -62,14 +62,7 @@ abbrev pub eachAlone : Reader
 eachAlone = record {
   number = sheetNo;
   rules = byRules;
-  table = λ table t. record {
-    State = byTable table t .State;
-    begin = byTable table t .begin;
-    place = byTable table t .place;
-    fault = byTable table t .fault;
-    after = λ s k. record { state = byTable table t .after s k .state; given = noRegisters; p = byTable table t .after s k .p };
-    p = byTable table t .p;
-  };
+  table = λ table t. withAfter (byTable table t) (λ s k. record { state = byTable table t .after s k .state; given = noRegisters; p = byTable table t .after s k .p });
   hunted = judgeRoom;
 }
 
@@ -82,16 +75,9 @@ abbrev pub alignmentFirst : Reader
 alignmentFirst = record {
   number = sheetNo;
   rules = byRules;
-  table = λ table t. record {
-    State = byTable table t .State;
-    begin = byTable table t .begin;
-    place = byTable table t .place;
-    fault = λ s k.
-        cond (eqb (transition table t (s .state) k .form) 2 && not (eqb (transition table t (s .state) k .a % tableKind table k .alignment) 0)) 4
-        (byTable table t .fault s k);
-    after = byTable table t .after;
-    p = byTable table t .p;
-  };
+  table = λ table t. withFault (byTable table t) (λ s k.
+      cond (eqb (transition table t (s .state) k .form) 2 && not (eqb (transition table t (s .state) k .a % tableKind table k .alignment) 0)) 4
+      (byTable table t .fault s k));
   hunted = judgeRoom;
 }
 
