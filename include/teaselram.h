@@ -1,8 +1,8 @@
 /*
  * Teaselram: the rule sheet of a calling convention, its calling table, and the verdict on a table.
  *
- * A sheet says for each kind of argument how it is placed in registers or on the stack. A table is a sheet worked out: one
- * row for each state of the walk, one transition for each kind. What the bytes and the answers mean is told in
+ * A sheet says for each kind of argument how it is placed in registers or on the stack. A table is a sheet worked out:
+ * one row for each state of the walk, one transition for each kind. What the bytes and the answers mean is told in
  * docs/FORMAT.md; every call is proved to do exactly that, on any input.
  *
  * Every call:
@@ -13,17 +13,17 @@
  *   field that is not named for an answer is 0;
  * - leaves `out` as it was where it refuses, and otherwise the bytes of `out` behind those it writes.
  *
- * In C and C++ a slice of no bytes may have a NULL pointer, as `std::vector<uint8_t>().data()` may be. Pass a pointer to any
- * byte in its place; nothing is read or written there:
+ * In C and C++ a slice of no bytes may have a NULL pointer, as `std::vector<uint8_t>().data()` may be. Pass a pointer
+ * to any byte in its place; nothing is read or written there:
  *
  *     uint8_t none = 0;
  *     answer = teaselram_place_by_table(table, table_len, len ? kinds : &none, len, len ? out : &none, len * 6);
  *
- * What to link: target/staticlib/libteaselram.a, which `rt staticlib teaselram` writes. It is position-independent code for
- * x86-64 Linux, and needs of its host memcpy, memset and TEASELRAM_MOST_STACK bytes of stack, nothing else. The kit writes
- * no code for Arm. There the tests link target/emulated/libteaselram.a, which `tests/emulated/build` makes: it has the same
- * calls, and the x86-64 code answers each in a second process under the kit's emulator. It is a way to test and no product.
- * A whole x86-64 program with the real library in it runs on Arm by `tests/emulated/run PROGRAM`.
+ * What to link: target/staticlib/libteaselram.a, which `rt staticlib teaselram` writes. It is position-independent code
+ * for x86-64 Linux, and needs of its host memcpy, memset and TEASELRAM_MOST_STACK bytes of stack, nothing else. The kit
+ * writes no code for Arm. There the tests link target/emulated/libteaselram.a, which `tests/emulated/build` makes: it
+ * has the same calls, and the x86-64 code answers each in a second process under the kit's emulator. It is a way to
+ * test and no product. A whole x86-64 program with the real library in it runs on Arm by `tests/emulated/run PROGRAM`.
  */
 #ifndef TEASELRAM_H
 #define TEASELRAM_H
@@ -52,9 +52,8 @@ extern "C" {
 #define TEASELRAM_LONGEST_LIST (2 * TEASELRAM_MOST_STATES)
 
 /*
- * The bytes of stack that do for any call, its return address and glibc's memcpy and memset included. Judging needs the most;
- * 2,560 do for building and 1,024 for all others. Not proved but measured, on a painted stack: tests/c/stack.c does so, and
- * the frames of the compiled code add up to what it finds.
+ * The bytes of stack that do for any call, its return address and glibc's memcpy and memset included. Judging needs the
+ * most; 2,560 do for building and 1,024 for all others. Not proved but measured on a painted stack, by tests/c/stack.c.
  */
 #define TEASELRAM_MOST_STACK 4096
 
@@ -94,7 +93,7 @@ enum teaselram_form {
 /* The flags of a sheet's kind, of which it may have both. */
 enum teaselram_flag {
     TEASELRAM_MAY_USE_STACK = 1,
-    TEASELRAM_CLOSING = 2 /* where it is placed, the runs of the starts that were tried and not taken become unavailable */
+    TEASELRAM_CLOSING = 2 /* where it is placed, the runs of starts tried and not taken become unavailable */
 };
 
 /* What a call answers that does more than read; each call says what `fault`, `count` and `value` are. */
@@ -175,7 +174,7 @@ struct teaselram_answer teaselram_row(const uint8_t *table, size_t table_len, ui
 
 /*
  * Places a list of kinds, one byte an argument, by the rules of a sheet.
- * Answers the number of arguments as count, and as value the final p, the end of the stack bytes in use: at most 31,600.
+ * Answers the number of arguments as count, and as value the final p, the end of the stack bytes used: at most 31,600.
  * Writes the records, six bytes an argument, and needs that much room.
  * Refuses as reading the sheet does, then with 8, 12, 9, 10; number 10 has fault 1, as there was no place.
  * A refusal writes nothing.
@@ -185,7 +184,7 @@ struct teaselram_answer teaselram_place_by_rules(const uint8_t *sheet, size_t sh
 
 /*
  * Places a list of kinds, one byte an argument, by a table.
- * Answers the number of arguments as count, and as value the final p, the end of the stack bytes in use: at most 31,600.
+ * Answers the number of arguments as count, and as value the final p, the end of the stack bytes used: at most 31,600.
  * Writes the records, six bytes an argument, and needs that much room.
  * Refuses as reading the table does, then with 8, 12, 9, 10; number 10 has the step's fault, 1 to 4.
  * A refusal writes nothing.
@@ -203,9 +202,9 @@ struct teaselram_answer teaselram_build(const uint8_t *sheet, size_t sheet_len, 
 
 /*
  * Judges a table: does some list of kinds, of any length, have a faulty step?
- * Answers fault 0 and count 0 where none does, and writes nothing then; or the fault number as fault and the length of the
- * shortest faulty list, the earliest in kind order of that length, as count.
- * Writes that list, one byte an argument. Needs room for two bytes a state; TEASELRAM_LONGEST_LIST bytes do for any table.
+ * Answers fault 0 and count 0 where none does, and writes nothing then; or the fault number as fault and the length of
+ * the shortest faulty list, the earliest in kind order of that length, as count.
+ * Writes that list, one byte an argument. Needs room for two bytes a state; TEASELRAM_LONGEST_LIST does for any table.
  * Refuses as reading the table does, then with 12. A refusal writes nothing.
  */
 struct teaselram_answer teaselram_judge(const uint8_t *table, size_t table_len, uint8_t *out, size_t out_len);

@@ -1,8 +1,8 @@
 /*
- * How many bytes of stack each call takes, its return address and the C library's memcpy and memset included: each is made
- * on a painted stack, and what lost its paint was taken. Makes every call with the sheet in the file that is named and with
- * its table, prints what each took, and fails where one took more than the header says. Is compiled without -O, so that each
- * call has its return address, and linked with -Wl,-z,now, so that no call also looks for memcpy.
+ * How many bytes of stack each call takes, its return address and the C library's memcpy and memset included: each is
+ * made on a painted stack, and what lost its paint was taken. Makes every call with the sheet and the table in the two
+ * files that are named, prints what each took, and fails where one took more than the header says. Is compiled without
+ * -O, so that each call has its return address, and linked with -Wl,-z,now, so that no call also looks for memcpy.
  */
 #include <stdio.h>
 #include <string.h>
@@ -12,20 +12,59 @@
 
 #define PAINT 0xA5
 
-static uint8_t sheet[TEASELRAM_LONGEST_SHEET], table[TEASELRAM_LONGEST_TABLE], kinds[TEASELRAM_MOST_ARGUMENTS];
+/* The numbers of a kind and of a state that no file has. */
+enum { NO_KIND = 8, NO_STATE = TEASELRAM_MOST_STATES };
+
+/* A sheet or a table, and the most arguments that it may place: each of its kinds in turn. */
+static struct file {
+    uint8_t bytes[TEASELRAM_LONGEST_TABLE];
+    size_t len;
+    uint8_t list[TEASELRAM_MOST_ARGUMENTS];
+} sheet, table;
+
+/* Not on the stack, where it would count as the call's. */
+static struct teaselram_answer placed;
 static uint8_t out[TEASELRAM_LONGEST_TABLE];
-static size_t sheet_len, table_len;
 
 static void nothing(void) {}
-static void read_sheet(void) { teaselram_read_sheet(sheet, sheet_len); }
-static void read_table(void) { teaselram_read_table(table, table_len); }
-static void sheet_kind(void) { teaselram_sheet_kind(sheet, sheet_len, 0); }
-static void table_kind(void) { teaselram_table_kind(table, table_len, 0); }
-static void row(void) { teaselram_row(table, table_len, 0); }
-static void by_rules(void) { teaselram_place_by_rules(sheet, sheet_len, kinds, sizeof kinds, out, sizeof out); }
-static void by_table(void) { teaselram_place_by_table(table, table_len, kinds, sizeof kinds, out, sizeof out); }
-static void build(void) { teaselram_build(sheet, sheet_len, out, sizeof out); }
-static void judge(void) { teaselram_judge(table, table_len, out, sizeof out); }
+static void read_sheet(void) { teaselram_read_sheet(sheet.bytes, sheet.len); }
+static void read_table(void) { teaselram_read_table(table.bytes, table.len); }
+static void build(void) { teaselram_build(sheet.bytes, sheet.len, out, sizeof out); }
+static void judge(void) { teaselram_judge(table.bytes, table.len, out, sizeof out); }
+
+static void sheet_kind(void)
+{
+    teaselram_sheet_kind(sheet.bytes, sheet.len, 0);
+    teaselram_sheet_kind(sheet.bytes, sheet.len, NO_KIND);
+}
+
+static void table_kind(void)
+{
+    teaselram_table_kind(table.bytes, table.len, 0);
+    teaselram_table_kind(table.bytes, table.len, NO_KIND);
+}
+
+static void row(void)
+{
+    teaselram_row(table.bytes, table.len, 0);
+    teaselram_row(table.bytes, table.len, NO_STATE);
+}
+
+/* Where a step is faulty, places once more what is before it, so that records are written. */
+static void by_rules(void)
+{
+    placed = teaselram_place_by_rules(sheet.bytes, sheet.len, sheet.list, sizeof sheet.list, out, sizeof out);
+    if (placed.number == TEASELRAM_FAULTY_STEP)
+        teaselram_place_by_rules(sheet.bytes, sheet.len, sheet.list, placed.count, out, sizeof out);
+}
+
+/* The same by the table. */
+static void by_table(void)
+{
+    placed = teaselram_place_by_table(table.bytes, table.len, table.list, sizeof table.list, out, sizeof out);
+    if (placed.number == TEASELRAM_FAULTY_STEP)
+        teaselram_place_by_table(table.bytes, table.len, table.list, placed.count, out, sizeof out);
+}
 
 static const struct call {
     const char *name;
@@ -61,20 +100,41 @@ static size_t taken(void (*make)(void))
     return sizeof stack - painted;
 }
 
+/* Answers whether there is such a file. */
+static int fill(struct file *file, const char *name)
+{
+    FILE *from = fopen(name, "rb");
+    if (from == NULL)
+        return 0;
+    file->len = fread(file->bytes, 1, sizeof file->bytes, from);
+    fclose(from);
+    return 1;
+}
+
+/* The list of a file with so many kinds, 0 where it is refused. */
+static void make_list(struct file *file, uint8_t kinds)
+{
+    for (size_t i = 0; i < sizeof file->list; i++)
+        file->list[i] = kinds == 0 ? 0 : i % kinds;
+}
+
 int main(int count, char **words)
 {
-    FILE *file = count == 2 ? fopen(words[1], "rb") : NULL;
     size_t before = taken(nothing);
     int failed = 0;
-    if (file == NULL)
+    if (count != 3 || !fill(&sheet, words[1]) || !fill(&table, words[2])) {
+        fprintf(stderr, "stack: a sheet and a table are needed\n");
         return 2;
-    sheet_len = fread(sheet, 1, sizeof sheet, file);
-    fclose(file);
-    table_len = teaselram_build(sheet, sheet_len, table, sizeof table).value;
+    }
+    make_list(&sheet, teaselram_read_sheet(sheet.bytes, sheet.len).kinds);
+    make_list(&table, teaselram_read_table(table.bytes, table.len).kinds);
     for (size_t i = 0; i < sizeof CALLS / sizeof CALLS[0]; i++) {
         size_t bytes = taken(CALLS[i].make) - before;
         printf("%s %lu\n", CALLS[i].name, (unsigned long)bytes);
-        failed |= bytes > CALLS[i].most;
+        if (bytes > CALLS[i].most) {
+            fprintf(stderr, "stack: %s takes more than %lu bytes\n", CALLS[i].name, (unsigned long)CALLS[i].most);
+            failed = 1;
+        }
     }
     return failed;
 }

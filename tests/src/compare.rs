@@ -3,14 +3,25 @@
 
 use reference::{Placed, Refusal, Sheet, SheetKind, Table, TableKind, Verdict};
 
-use crate::{kinds, Lent};
+use crate::{kinds, refused, Lent};
 
-/// What the library answers, in the second program's terms.
+/// What a call without a list answers, in the second program's terms, by which no position is position 0.
 fn same<T>(answer: Result<T, teaselram::Refusal>) -> Result<T, Refusal> {
-    answer.map_err(|refusal| Refusal {
-        number: refusal.number,
-        position: refusal.position,
-        fault: refusal.fault,
+    answer.map_err(|refusal| {
+        assert_eq!(refusal.position, None, "{refusal:?}");
+        refused(refusal.number, 0, refusal.fault)
+    })
+}
+
+/// What placing answers, in the same terms: 9 and 10 have a position, and nothing else has.
+fn same_placed(
+    answer: Result<teaselram::Placed, teaselram::Refusal>,
+) -> Result<teaselram::Placed, Refusal> {
+    answer.map_err(|refusal| {
+        let positioned = matches!(refusal.number, 9 | 10);
+        assert_eq!(refusal.position.is_some(), positioned, "{refusal:?}");
+        let position = refusal.position.unwrap_or(0);
+        refused(refusal.number, position, refusal.fault)
     })
 }
 
@@ -93,7 +104,7 @@ pub fn row(table: &[u8], state: u64) -> Result<&[u8], Refusal> {
 /// Placing by the rules.
 pub fn place_by_rules(sheet: &[u8], kinds: &[u8], room: usize) -> Result<Placed, Refusal> {
     let mut lent = Lent::new(room);
-    let answer = same(teaselram::place_by_rules(sheet, kinds, lent.out()));
+    let answer = same_placed(teaselram::place_by_rules(sheet, kinds, lent.out()));
     let expected = reference::place_by_rules(sheet, kinds, room);
     let wanted = wanted(&expected, placed);
     assert_eq!(answer, wanted, "{kinds:?} by {sheet:02X?}");
@@ -104,7 +115,7 @@ pub fn place_by_rules(sheet: &[u8], kinds: &[u8], room: usize) -> Result<Placed,
 /// Placing by a table.
 pub fn place_by_table(table: &[u8], kinds: &[u8], room: usize) -> Result<Placed, Refusal> {
     let mut lent = Lent::new(room);
-    let answer = same(teaselram::place_by_table(table, kinds, lent.out()));
+    let answer = same_placed(teaselram::place_by_table(table, kinds, lent.out()));
     let expected = reference::place_by_table(table, kinds, room);
     let wanted = wanted(&expected, placed);
     assert_eq!(answer, wanted, "{kinds:?} by {table:02X?}");

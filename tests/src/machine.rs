@@ -10,20 +10,26 @@ pub fn top() -> PathBuf {
     Path::new(env!("CARGO_MANIFEST_DIR")).join("..")
 }
 
-/// The archive with the calls of include/teaselram.h that this machine's programs link: the proved library itself, or the
-/// calls that send each request to it under the emulator. `rust/teaselram/build.rs` links the same.
+/// The proved library itself, x86-64 code on every machine, from the top of the repository.
+pub const PROVED: &str = "target/staticlib/libteaselram.a";
+
+/// What makes the C compiler say all that it has to say.
+pub const WARNINGS: [&str; 4] = ["-Wall", "-Wextra", "-Wpedantic", "-Werror"];
+
+/// The archive with the calls of include/teaselram.h that this machine's programs link: the proved library itself, or
+/// the calls that send each request to it under the emulator. `rust/teaselram/build.rs` links the same.
 pub fn archive() -> PathBuf {
-    let folder = if is_emulated() {
-        "emulated"
+    let archive = if is_emulated() {
+        "target/emulated/libteaselram.a"
     } else {
-        "staticlib"
+        PROVED
     };
-    top().join("target").join(folder).join("libteaselram.a")
+    top().join(archive)
 }
 
-/// Whether the tests call the proved library through tests/emulated: on every processor that cannot run its code, and on
-/// x86-64 where TEASELRAM_EMULATED is set.
-pub fn is_emulated() -> bool {
+/// Whether the tests call the proved library through tests/emulated: on every processor that cannot run its code, and
+/// on x86-64 where TEASELRAM_EMULATED is set.
+fn is_emulated() -> bool {
     !cfg!(target_arch = "x86_64") || env::var_os("TEASELRAM_EMULATED").is_some()
 }
 
@@ -44,4 +50,19 @@ pub fn program(name: &str) -> Command {
     let mut command = Command::new(top().join("tests/emulated/run"));
     command.arg(program);
     command
+}
+
+/// Runs a command at the top of the repository and answers what it prints; any warning is an error.
+pub fn run(program: &str, arguments: &[&str]) -> String {
+    let output = Command::new(program)
+        .args(arguments)
+        .current_dir(top())
+        .output();
+    let output = output.unwrap_or_else(|error| panic!("{program} is needed: {error}"));
+    let said = String::from_utf8_lossy(&output.stderr);
+    assert!(
+        output.status.success() && said.is_empty(),
+        "{program} {arguments:?}:\n{said}"
+    );
+    String::from_utf8(output.stdout).expect("text")
 }

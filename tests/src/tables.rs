@@ -60,6 +60,14 @@ pub fn ring(
     table(registers, (0..path.len()).map(row).collect())
 }
 
+/// The table whose two kinds lead apart, to a state each that gives one of the registers again and again. So two lists
+/// of one length are faulty, and that of the first register comes first.
+pub fn rivals([first, second]: [u8; 2]) -> Table {
+    let twice = |register, state| vec![in_registers(register, 1, state), on_stack(0)];
+    let apart = vec![on_stack(1), on_stack(2)];
+    table(2, vec![apart, twice(first, 1), twice(second, 2)])
+}
+
 /// A seeded path of a ring with so many states.
 pub fn path(random: &mut Xorshift, kinds: u8, states: usize) -> Vec<u8> {
     (0..states).map(|_| random.within(0..=kinds - 1)).collect()

@@ -1,6 +1,6 @@
 //! Judging tables: the examples of document 01, tables made to be hard, and seeded ones, the library beside the second program.
 
-use comparison::tables::{in_registers, on_stack, path, ring, table};
+use comparison::tables::{in_registers, on_stack, path, ring, rivals, table};
 use comparison::{compare, damage, refused, rounds, Numbers, MOST};
 use reference::samples::{self, one_step_table, Most, Xorshift, S};
 use reference::{Refusal, Table, Transition, Verdict};
@@ -23,7 +23,7 @@ fn assert_shown(table: &[u8], fault: u8, list: &[u8]) {
     let last = list.len() - 1;
     let refusal = teaselram::Refusal {
         number: 10,
-        position: last,
+        position: Some(last),
         fault,
     };
     let mut out = [0; 2400];
@@ -171,14 +171,8 @@ fn shorter_first_and_then_in_kind_order() {
 /// Two lists of one length go wrong by different registers; which register has the lower number decides nothing.
 #[test]
 fn kind_order_comes_before_the_order_of_registers() {
-    for [first, second] in [[0, 1], [1, 0]] {
-        let twice = |register, next| vec![in_registers(register, 1, next), on_stack(0)];
-        let rows = vec![
-            vec![on_stack(1), on_stack(2)],
-            twice(first, 1),
-            twice(second, 2),
-        ];
-        assert_eq!(judge(&table(2, rows)), fault(2, [0, 0, 0]));
+    for registers in [[0, 1], [1, 0]] {
+        assert_eq!(judge(&rivals(registers)), fault(2, [0, 0, 0]));
     }
 }
 

@@ -20,7 +20,7 @@ const STACK: u8 = 2;
 fn refusal(number: u8) -> Refusal {
     Refusal {
         number,
-        position: 0,
+        position: None,
         fault: 0,
     }
 }
@@ -39,18 +39,18 @@ fn admit(kinds: &[u8], known: u8, room: usize) -> Result<(), Refusal> {
         return Err(refusal(12));
     }
     match kinds.iter().position(|&kind| kind >= known) {
-        Some(position) => Err(Refusal {
+        None => Ok(()),
+        position => Err(Refusal {
             position,
             ..refusal(9)
         }),
-        None => Ok(()),
     }
 }
 
 fn faulty(position: usize, fault: u8) -> Refusal {
     Refusal {
         number: 10,
-        position,
+        position: Some(position),
         fault,
     }
 }

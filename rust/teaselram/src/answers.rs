@@ -4,12 +4,30 @@ use std::{error, fmt};
 
 use crate::ffi;
 
-/// A refusal: its number, of docs/FORMAT.md; for 9 and 10 the position in the list, for 10 the fault; 0 where there is none, as there
-/// is no list where a kind is asked for.
+/// A refusal: its number, of docs/FORMAT.md; the position in the list, where placing refuses with 9 or 10; and for 10
+/// the fault, which is 0 for every other number.
+///
+/// ```
+/// let sheet = [0, 11, 1, 2, 4, 4, 1, 4, 4, 1, 2, 0, 1];
+/// let refusal = teaselram::place_by_rules(&sheet, &[0, 1], &mut [0; 12]).unwrap_err();
+/// assert_eq!((refusal.number, refusal.position), (9, Some(1)));
+/// assert_eq!(refusal.to_string(), "refused 9 at position 1");
+///
+/// // A kind that is asked for is in no list.
+/// let refusal = teaselram::sheet_kind(&sheet, 1).unwrap_err();
+/// assert_eq!((refusal.number, refusal.position), (9, None));
+/// assert_eq!(refusal.to_string(), "refused 9");
+///
+/// // One state that gives register 0 to every argument: the second finds it taken.
+/// let table = [0, 12, 1, 1, 4, 4, 1, 4, 4, 1, 1, 0, 1, 0];
+/// let refusal = teaselram::place_by_table(&table, &[0, 0], &mut [0; 12]).unwrap_err();
+/// assert_eq!((refusal.number, refusal.position, refusal.fault), (10, Some(1), 2));
+/// assert_eq!(refusal.to_string(), "refused 10 at position 1, fault 2");
+/// ```
 #[derive(Debug, Clone, Copy, PartialEq, Eq)]
 pub struct Refusal {
     pub number: u8,
-    pub position: usize,
+    pub position: Option<usize>,
     pub fault: u8,
 }
 
@@ -75,11 +93,13 @@ impl SheetKind<'_> {
 impl fmt::Display for Refusal {
     fn fmt(&self, f: &mut fmt::Formatter<'_>) -> fmt::Result {
         write!(f, "refused {}", self.number)?;
-        match self.number {
-            9 => write!(f, " at position {}", self.position),
-            10 => write!(f, " at position {}, fault {}", self.position, self.fault),
-            _ => Ok(()),
+        if let Some(position) = self.position {
+            write!(f, " at position {position}")?;
         }
+        if self.fault != 0 {
+            write!(f, ", fault {}", self.fault)?;
+        }
+        Ok(())
     }
 }
 
@@ -90,22 +110,24 @@ impl Refusal {
     fn numbered(number: u8) -> Self {
         Refusal {
             number,
-            position: 0,
+            position: None,
             fault: 0,
         }
     }
 }
 
 impl ffi::Answer {
-    /// The answer where its number is 0, its refusal otherwise.
+    /// The answer where its number is 0, its refusal otherwise. Of the calls that answer so, only placing refuses with
+    /// 9 or 10, and `count` is then the position.
     pub(crate) fn accepted(self) -> Result<Self, Refusal> {
         match self.number {
             0 => Ok(self),
-            number => Err(Refusal {
-                number,
-                position: usize::from(self.count),
+            9 | 10 => Err(Refusal {
+                number: self.number,
+                position: Some(usize::from(self.count)),
                 fault: self.fault,
             }),
+            number => Err(Refusal::numbered(number)),
         }
     }
 
