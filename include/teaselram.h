@@ -68,11 +68,11 @@ enum teaselram_refusal {
     TEASELRAM_LEFT_OVER = 6,          /* bytes left over */
     TEASELRAM_WRONG_TRANSITION = 7,   /* a transition outside its values */
     TEASELRAM_TOO_MANY_ARGUMENTS = 8, /* more than 400 arguments */
-    TEASELRAM_UNKNOWN_KIND = 9,       /* a kind that there is not; placing, count: the first such position, from 0 */
+    TEASELRAM_UNKNOWN_KIND = 9,       /* no such kind; from placing, count is the first such position, from 0 */
     TEASELRAM_FAULTY_STEP = 10,       /* a faulty step; count: its position, from 0; fault: its fault */
     TEASELRAM_TOO_MANY_STATES = 11,   /* lists of the sheet's kinds reach more than 200 allocation states */
     TEASELRAM_SHORT_OUTPUT = 12,      /* the lent output is shorter than needed */
-    TEASELRAM_UNKNOWN_STATE = 13      /* a row asked of a state that there is not */
+    TEASELRAM_UNKNOWN_STATE = 13      /* a row asked of a state that the table does not have */
 };
 
 /* The faults of a step; the first that applies is the step's. */
@@ -123,7 +123,7 @@ struct teaselram_kind {
     uint8_t flags;        /* a sum of enum teaselram_flag */
     uint8_t starts;       /* t, how many start registers it has: 0 to 16 */
     uint8_t zero;         /* always 0 */
-    uint16_t first_start; /* where in the sheet the first of them stands, with the others behind it, or would stand */
+    uint16_t first_start; /* where in the sheet the first of them stands, or would; the others follow it */
 };
 
 #if defined(__cplusplus) && __cplusplus >= 201103L

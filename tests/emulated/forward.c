@@ -97,7 +97,7 @@ static void start(void)
     if (!failed)
         failed = posix_spawn(&process, arguments[0], &actions, NULL, arguments, environ);
     if (failed)
-        fail("the kit's emulator does not start", failed);
+        fail("the program that serves does not start", failed);
     posix_spawn_file_actions_destroy(&actions);
     close(program);
     close(ends[1]);

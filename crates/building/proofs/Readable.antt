@@ -86,11 +86,11 @@ module _ (sheet : Sheet) (l : List (Entry (allocations sheet))) where
   kinds-length : length kinds ≡ tableKindLength * m
   kinds-length = length-blocks (builtKind sheet) tableKindLength m (λ k h. refl)
 
-  transition-wide : (a : Allocation) (k : ℕ) → length (builtTransition sheet l a k) ≡ transitionLength
+  pub transition-wide : (a : Allocation) (k : ℕ) → length (builtTransition sheet l a k) ≡ transitionLength
   unfolding builtTransition
   transition-wide a k = made-length (sheet .head .modulus) (byRules sheet .place (fromAllocation a) k) _
 
-  row-wide : (i : ℕ) → length (builtRow sheet l i) ≡ rowLength m
+  pub row-wide : (i : ℕ) → length (builtRow sheet l i) ≡ rowLength m
   unfolding builtRow
   row-wide i = length-blocks _ transitionLength m (λ k h. transition-wide (node i) k)
 

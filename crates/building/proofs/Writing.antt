@@ -21,12 +21,11 @@ use Rattle.convention.specs.Fields.{kindsAt}
 use Rattle.convention.specs.Sheets.{sheetKind}
 use Rattle.convention.specs.Tables.{tableKindLength, statesAt, transitionLength, rowsAt, rowLength, rowAt}
 use Rattle.convention.specs.Explored.{Entry}
-use Rattle.convention.specs.Rules.{byRules}
-use Rattle.convention.specs.Built.{fromAllocation, allocations, transitionBytes, builtTransition, builtRow, builtKind, builtBody, tableOfStates, builtStates, builtTable}
+use Rattle.convention.specs.Built.{allocations, transitionBytes, builtTransition, builtRow, builtKind, builtBody, tableOfStates, builtStates, builtTable}
 use Rattle.convention.proofs.Bytes.{length-written, written-nothing, written-sets, written-one, written-more, length-blocks, written-block}
 use Rattle.building.specs.Holding.{StateAt, Finds, LeadIs}
 use Rattle.building.specs.Writing.{residueOf, placeBytes, StatesKept, CellAsks, CellIs, TableAsks, RowAsks, KindsAsk, openingBytes, FrontAsks, frontBytes, BlocksLeft}
-use Rattle.building.proofs.Readable.{made-length, built-length}
+use Rattle.building.proofs.Readable.{built-length, transition-wide, row-wide}
 use Rattle.building.proofs.Leading.{lead-asks, lead-of}
 
 -- Where a row starts can be counted.
@@ -110,21 +109,13 @@ module _ (sheet : Sheet) (k : ℕ) (before out : List ℕ) (asks : KindsAsk shee
   kind-on = blocks-on (builtKind sheet) kindsAt _ before tableKindLength k out _ (λ i. refl) left h (omega (arith, asks .there))
       (stored-two out (7 + 2 * k) _ _ (omega (arith, asks .there, left .long)))
 
--- How long a row is.
+-- The rows.
 module _ (sheet : Sheet) where
   abbrev m : ℕ
   m = sheet .head .kinds
 
   abbrev l : List (Entry (allocations sheet))
   l = builtStates stateLimit sheet
-
-  cell-wide : (a : Allocation) (k : ℕ) → length (builtTransition sheet l a k) ≡ transitionLength
-  unfolding builtTransition
-  cell-wide a k = made-length (sheet .head .modulus) (byRules sheet .place (fromAllocation a) k) _
-
-  row-wide : (i : ℕ) → length (builtRow sheet l i) ≡ rowLength m
-  unfolding builtRow
-  row-wide i = length-blocks _ transitionLength m (λ k h. cell-wide _ k)
 
   -- A row of the table lies within it.
   row-there : (states : List ℕ) (count i : ℕ) (out : List ℕ) → RowAsks sheet states count i out → rowAt m i + rowLength m ≤ length out
@@ -143,7 +134,7 @@ module _ (sheet : Sheet) where
       pub cell-on : (after : List ℕ) → CellIs (sheet .head) (sheetKind sheet k) a states count out (at + 4 * k) after
           → BlocksLeft (builtTransition sheet l a) at (k + 1) m before after
       cell-on after is =
-          blocks-on (builtTransition sheet l a) at m before transitionLength k out after (cell-wide a) left h
+          blocks-on (builtTransition sheet l a) at m before transitionLength k out after (transition-wide sheet l a) left h
           (omega (arith, row-there states count i before asks)) (is .cell sheet k refl refl (asks .asks .kept .keeps))
 
     -- All of them.
@@ -162,7 +153,7 @@ module _ (sheet : Sheet) where
     pub row-on : (after : List ℕ) → after ≡ written out (rowAt m i) (builtRow sheet l i)
         → BlocksLeft (builtRow sheet l) (rowsAt m) (i + 1) count before after
     row-on after e =
-        blocks-on (builtRow sheet l) (rowsAt m) count before (rowLength m) i out after row-wide left h
+        blocks-on (builtRow sheet l) (rowsAt m) count before (rowLength m) i out after (row-wide sheet l) left h
         (row-there states count i before (record { asks = asks; inside = h })) e
 
 -- One more part, written right behind those from the first byte on.

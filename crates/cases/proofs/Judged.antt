@@ -1,17 +1,16 @@
 -- P8 to P12 of the judge's contract: two verdicts that it allows are one, and the verdict by trying is allowed.
 use Prim.Native.Nat.{ℕ, zero, suc}
-use mathlib.Core.Path.{_≡_, refl, sym, ap, _∙_}
+use mathlib.Core.Path.{_≡_, refl, sym, ap}
 use mathlib.Core.List.{List, [], _∷_, map}
 use native.Mathlib.Omega.{arith}
 use lib.ListN.{length}
 use lib.Seq.{take-append-seam}
-use borrow.Author.Tests.{le-leb}
 use Rattle.convention.specs.declared.Judging.{Judging}
 use Rattle.convention.specs.declared.Judging.the-variants.{Clean, Fault}
 use Rattle.convention.specs.Numbers.{stateLimit, refusal}
 use Rattle.convention.specs.Tables.{tableNo}
 use Rattle.convention.specs.Judged.{judgeNo, Judges, verdictByTrying}
-use Rattle.convention.proofs.Numbers.{or-on}
+use Rattle.judging.proofs.Unique.{judge-passes}
 use Rattle.judging.proofs.Trying.{judges-trying}
 use Rattle.cases.specs.Readings.{asDefined}
 use Rattle.cases.specs.Cases.{Given, byRulesIn, byTableIn, judge, askRow, judged, comesOf, Case, cases}
@@ -21,10 +20,9 @@ use Rattle.cases.proofs.Hold.{cases-hold, settled-hold, as-defined}
 
 -- A table that can be read, which has its verdict by trying.
 judged-as : (t : List ℕ) → tableNo stateLimit t ≡ 0 → JudgedAs (judge t) (judged 0 (verdictByTrying t))
-unfolding JudgedAs judgeNo
+unfolding JudgedAs
 judged-as t read out answer after room j =
-    let number : judgeNo stateLimit t (length out) ≡ 0 = or-on _ _ read ∙ rw (le-leb _ _ room) in
-    let same = judges-trying stateLimit t out number answer after j in
+    let same = judges-trying stateLimit t out (judge-passes stateLimit t (length out) read room) answer after j in
     rw (same .0, same .1) (refl, take-append-seam (verdictByTrying t .list) _)
 
 -- A table that cannot be read, which is refused with its number.

@@ -1,11 +1,10 @@
 -- 01's lines of the program. S's table is clean since every kind of S may use the stack; the other table's verdict is found by trying.
 use Prim.Native.Nat.{ℕ, zero, suc, _≤_, _<_}
-use mathlib.Core.Path.{_≡_, refl, sym, _∙_}
+use mathlib.Core.Path.{_≡_, refl, sym}
 use mathlib.Core.Bool.{true}
 use mathlib.Core.List.{List, [], _∷_}
 use native.Mathlib.Omega.{arith}
 use lib.ListN.{length, take, replicate}
-use borrow.Author.Tests.{le-leb}
 use Rattle.convention.specs.declared.Building.{Building}
 use Rattle.convention.specs.declared.Building.the-variants.{Built}
 use Rattle.convention.specs.declared.Judging.{Judging}
@@ -23,10 +22,10 @@ use Rattle.convention.specs.Explored.{number, meet, metFrom, through, met}
 use Rattle.convention.specs.Built.{sameFlags, builtTransition, builtRow, builtBody, tableOfStates, builtTable, buildNo, build}
 use Rattle.convention.specs.Judged.{eachKind, listsOf, listsUpTo, firstFault, verdictByTrying, CleanTable, judgeRoom, judgeNo, Judges}
 use Rattle.convention.specs.Program.{inputLimit, digitsIn, decimal, kindFields, refusedLine, verdictFields, line, Prints}
-use Rattle.convention.proofs.Numbers.{or-on}
 use Rattle.convention.proofs.Sheets.{sheet-read}
 use Rattle.building.proofs.Bytes.{built-sheet, built-readable}
 use Rattle.building.proofs.Clean.{clean-if-stack}
+use Rattle.judging.proofs.Unique.{judge-passes}
 use Rattle.judging.proofs.Trying.{trying-judges}
 use Rattle.cases.specs.Cases.{simple, stacklessDouble}
 use Rattle.cases.specs.Examples.{tableLength, cleanLine, faultLine, refusedOne}
@@ -38,8 +37,7 @@ module _ (s : List ℕ) (few : length s ≤ inputLimit) (n len : ℕ) (built : b
 
   -- With room for 2N kinds judging refuses nothing.
   judged : (out : List ℕ) → judgeRoom table ≤ length out → judgeNo stateLimit table (length out) ≡ 0
-  unfolding judgeNo
-  judged out room = or-on _ _ (built-readable stateLimit s _ n len built (omega arith)) ∙ rw (le-leb _ _ room)
+  judged out room = judge-passes stateLimit table (length out) (built-readable stateLimit s _ n len built (omega arith)) room
 
   prints : (verdict : Judging) (before after : List ℕ) → judgeRoom table ≤ length before → Judges stateLimit table before verdict after
       → Prints s (line (Built n len) (sheetOf s .head .kinds) verdict (take (judgingSays verdict .count) after))

@@ -1,4 +1,4 @@
--- How a reader takes document 01, as far as its examples go through it: as the definitions say it, or by one of the misreadings that 01 names.
+-- How a reader takes document 01, as far as its examples go through it: as the definitions say it, or by a misreading: those that 01 names and examples can tell, and three others.
 use Prim.Native.Nat.{ℕ, zero, suc, _+_, _%_}
 use mathlib.Core.Bool.{true, false, not, cond, _&&_}
 use mathlib.Core.List.{List, [], _∷_, map}

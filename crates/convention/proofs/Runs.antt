@@ -6,7 +6,7 @@ use mathlib.Core.Path.{_≡_, refl, _∙_}
 use mathlib.Core.Logic.{_⊎_, inl, inr}
 use mathlib.Core.Bool.{Bool, true, false, false≢true, true≢false}
 use mathlib.Core.List.{List}
-use lib.ListN.{length, getD, set, length-set}
+use lib.ListN.{length, getD, set, length-set, replicate}
 use lib.Seq.{getD-set-same, getD-set-other}
 use Rattle.convention.specs.Rules.{freeRun, markRun}
 
@@ -14,6 +14,12 @@ use Rattle.convention.specs.Rules.{freeRun, markRun}
 pub either : (b : Bool) → (b ≡ true) ⊎ (b ≡ false)
 either true = inl refl
 either false = inr refl
+
+-- Of no registers none is taken.
+pub none-taken : (n r : ℕ) → getD (replicate n false) r false ≡ false
+none-taken zero r = refl
+none-taken (suc n) zero = refl
+none-taken (suc n) (suc r) = none-taken n r
 
 -- No register of a free run is taken.
 pub free-each : (taken : List Bool) (first count : ℕ) → freeRun taken first count ≡ true

@@ -3,7 +3,7 @@ use Prim.Native.Nat.{ℕ, zero, suc, _*_}
 use mathlib.Core.Bool.{true, false, cond}
 use mathlib.Core.List.{List, [], _∷_, _++_}
 use lib.Dec.{ltb, leb}
-use lib.ListN.{length, drop}
+use lib.ListN.{length, getD, drop}
 use Rattle.convention.specs.declared.Offset.{Offset}
 use Rattle.convention.specs.declared.Placement.{Placement}
 use Rattle.convention.specs.declared.Placement.the-variants.{Registers, Stack, Nowhere}
@@ -40,6 +40,10 @@ stateFrom M s (k ∷ ks) = stateFrom M (M .after s k) ks
 unfoldable pub placesFrom : (M : Steps) → M .State → List ℕ → List Placement
 placesFrom M s [] = []
 placesFrom M s (k ∷ ks) = M .place s k ∷ placesFrom M (M .after s k) ks
+
+-- The place of argument i of a list. (Behind a faulty step this goes on as if it had none.)
+abbrev pub placeBy : (M : Steps) → List ℕ → ℕ → Placement
+placeBy M ks i = getD (placesFrom M (M .begin) ks) i Nowhere
 
 -- 'Its record is form (1 or 2), first register or offset in four bytes, big-endian, and count in one byte.'
 abbrev pub recordOf : Placement → List ℕ

@@ -9,7 +9,7 @@ use Rattle.convention.specs.declared.TableKind.{TableKind}
 use Rattle.convention.specs.declared.Placement.{Placement}
 use Rattle.convention.specs.declared.Placement.the-variants.{Registers, Stack, Nowhere}
 use Rattle.convention.specs.Tables.{tableKind, tableOf}
-use Rattle.convention.specs.Lists.{placesFrom}
+use Rattle.convention.specs.Lists.{placeBy}
 use Rattle.convention.specs.Walked.{byTable}
 
 -- Register r is one of a place's.
@@ -34,9 +34,9 @@ Right h kind (Registers first count) = ((r : ℕ) → HasRegister (Registers fir
 Right h kind (Stack offset count) = (count ≡ kind .size) × (offset .0 % kind .alignment ≡ 0)
 Right h kind Nowhere = ⊥
 
--- The place that the table t gives argument i of a list. (Behind a faulty step this goes on as if it had none; such a list is wrong already.)
+-- The place that the table t gives argument i of a list.
 abbrev pub placeOf : List ℕ → List ℕ → ℕ → Placement
-placeOf t ks i = getD (placesFrom (byTable (tableOf t) t) (byTable (tableOf t) t .begin) ks) i Nowhere
+placeOf t ks i = placeBy (byTable (tableOf t) t) ks i
 
 -- The list goes right: each argument finds a place that is right for its kind, and no two arguments share a register or a stack byte.
 pub record WellPlaced (t ks : List ℕ) : Type 0 where

@@ -2,10 +2,10 @@
 use Prim.Native.Nat.{ℕ, _*_, _≤_, _<_}
 use mathlib.Core.Path.{_≡_, refl, sym, ap, _∙_}
 use mathlib.Core.Logic.{inl, inr, _↔_}
-use mathlib.Core.List.{List}
+use mathlib.Core.List.{List, _++_}
 use native.Mathlib.Nat.{eq-zero-or-pos}
 use native.Mathlib.Omega.{arith}
-use lib.ListN.{length, getD, take}
+use lib.ListN.{length, getD, take, drop}
 use lib.Seq.{getD-take, drop-at, length-take-le}
 use Rattle.convention.specs.declared.Offset.{Offset}
 use Rattle.convention.specs.declared.Placement.the-variants.{Nowhere}
@@ -20,12 +20,13 @@ use Rattle.convention.specs.Lists.{Steps, faultFrom, stopFrom, records, placing
 use Rattle.convention.specs.Rules.{placeByRules, rulesMemory}
 use Rattle.convention.specs.Walked.{placeByTable, tableMemory}
 use Rattle.convention.specs.Built.{builtStates, builtTable, build, buildMemory}
-use Rattle.convention.specs.Judged.{listFault, FaultyList, CleanTable, Judges}
+use Rattle.convention.specs.Judged.{listFault, FaultyList, CleanTable, judgeNo, Judges, verdictByTrying}
 use Rattle.convention.specs.WellPlaced.{WellPlaced}
 use Rattle.convention.proofs.Numbers.{reading-no}
 use Rattle.convention.proofs.Sheets.{sheet-read}
 use Rattle.convention.proofs.Tables.{table-read}
 use Rattle.convention.proofs.Lists.{places-length, record-at}
+use Rattle.places.proofs.Accepted.{accepted}
 use Rattle.places.proofs.Walks.{records-long}
 use Rattle.placing.proofs.Given.{answer-most as rules-most}
 use Rattle.walking.proofs.Given.{answer-most as table-most}
@@ -35,8 +36,9 @@ use Rattle.building.proofs.Calls.{same-answer, same-bytes}
 use Rattle.building.proofs.Readable.{built-states}
 use Rattle.building.proofs.Bytes.{built-says, built-sheet, built-readable, bytes-are, bytes-behind}
 use Rattle.judging.proofs.Fronts.{stops}
+use Rattle.judging.proofs.Trying.{trying-judges}
 use Rattle.demands.proofs.Reading.{sheet-refuses, table-refuses}
-use Rattle.demands.proofs.Placing.{placing-refuses, placing-placed}
+use Rattle.demands.proofs.Placing.{placing-refuses}
 use Rattle.demands.proofs.Others.{building-refuses, judging-refuses, row-refuses, sheet-kind-refuses, table-kind-refuses}
 use Rattle.demands.specs.Demands.{Demand1, OfTable, stopBy, rules, table, DownToTheByte, PlacesAlike, BuiltBytes, Demand2, ComesBack, JudgedRight, Demand3}
 
@@ -63,16 +65,16 @@ demand-1 = record {
 -- ---- demand 2
 
 -- The records of a list stand one behind the other, in front of what was there.
-down-to-the-byte : (readNo m : ℕ) → readNo ≤ 7 → (M : Steps) (ks out : List ℕ) (n : ℕ) (p : Offset) → placing argumentLimit readNo m M ks (length out) ≡ Placed n p
+down-to-the-byte : (readNo m : ℕ) (M : Steps) (ks out : List ℕ) (n : ℕ) (p : Offset) → placing argumentLimit readNo m M ks (length out) ≡ Placed n p
     → DownToTheByte M ks out n p (placingMemory (Placed n p) M ks out)
 unfolding placingMemory
-down-to-the-byte readNo m low M ks out n p placed =
-    let says = placing-placed readNo m low M ks out n p placed in
+down-to-the-byte readNo m M ks out n p placed =
+    let means = accepted n p argumentLimit readNo m M ks (length out) placed in
     record {
-      count = says .0;
-      final = says .1;
+      count = sym (means .count);
+      final = sym (means .final);
       records = λ i h. record-at _ _ i (rw (places-length M (M .begin) ks) h);
-      others = rw (← records-long M ks) (drop-at (records M ks) _ _ refl);
+      behind = rw (← records-long M ks) (drop-at (records M ks) _ _ refl);
     }
 
 -- A walk that stops behind its list has no fault.
@@ -104,21 +106,20 @@ module _ (s out : List ℕ) (n len : ℕ) (built : build stateLimit s (length ou
   built-bytes : BuiltBytes s out n len (buildMemory stateLimit s out)
   built-bytes =
       let says = built-says stateLimit s (length out) n len built in
-      let behind = bytes-behind stateLimit s out n len built in
       let same = bytes-are stateLimit s out n len built in
       record {
         long = rw same (sym (says .2));
         readable = rw same (built-readable stateLimit s (length out) n len built (omega arith));
         states = rw same (built-states (sheetOf s) (builtStates stateLimit (sheetOf s)) ∙ sym (says .1));
         alike = rw same places-alike;
-        others = behind;
+        behind = bytes-behind stateLimit s out n len built;
       }
 
 pub demand-2 : Demand2
 unfolding placeByRules rulesMemory placeByTable tableMemory
 demand-2 = record {
-  by-rules = λ s ks out n p placed. rw placed (down-to-the-byte (sheetNo s) _ (omega (arith, sheet-refuses s .others)) (rules s) ks out n p placed);
-  by-table = λ t ks out n p placed. rw placed (down-to-the-byte (tableNo stateLimit t) _ (table-refuses stateLimit t .others) (table t) ks out n p placed);
+  by-rules = λ s ks out n p placed. rw placed (down-to-the-byte (sheetNo s) _ (rules s) ks out n p placed);
+  by-table = λ t ks out n p placed. rw placed (down-to-the-byte (tableNo stateLimit t) _ (table t) ks out n p placed);
   built = built-bytes;
 }
 
@@ -151,7 +152,7 @@ module _ (t out : List ℕ) (read : tableNo stateLimit t ≡ 0) (room : 2 * tabl
     };
     long = length-take-le n after (omega (arith, j .1, j .4));
     says = j .2 .says;
-    others = j .3;
+    behind = j .3;
   }
 
   judged-right : (answer : Judging) (after : List ℕ) → Judges stateLimit t out answer after → JudgedRight t out answer after
@@ -173,5 +174,13 @@ module _ (t out : List ℕ) (read : tableNo stateLimit t ≡ 0) (room : 2 * tabl
   judged-right (Judging.Refused number) after j =
       absurd (omega (arith, judging-refuses t out (Judging.Refused number) after j .success .1 (read, room), j .1))
 
+-- Some answer is allowed: the verdict by trying, or the refusal.
+answered : (t out : List ℕ) → (answer : Judging) × (after : List ℕ) × Judges stateLimit t out answer after
+unfolding Judges
+answered t out = elim (eq-zero-or-pos (judgeNo stateLimit t (length out))) [
+  | inl e ↦ (verdictByTrying t .answer, verdictByTrying t .list ++ drop (length (verdictByTrying t .list)) out, trying-judges stateLimit t out e)
+  | inr h ↦ (Judging.Refused (judgeNo stateLimit t (length out)), out, (refl, h, refl))
+]
+
 pub demand-3 : Demand3
-demand-3 = record { judged = λ t out answer after read room. judged-right t out read room answer after; faults = λ t ks read. goes-right t read ks }
+demand-3 = record { answered = answered; judged = λ t out answer after read room. judged-right t out read room answer after; faults = λ t ks read. goes-right t read ks }

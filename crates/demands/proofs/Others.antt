@@ -15,16 +15,16 @@ use Rattle.convention.specs.declared.Judging.the-variants.{Clean, Fault}
 use Rattle.convention.specs.Numbers.{stateLimit, orElse, unless, buildingSays, judgingSays}
 use Rattle.convention.specs.Fields.{headOf}
 use Rattle.convention.specs.Sheets.{sheetNo, sheetOf}
-use Rattle.convention.specs.Tables.{tableNo, tableOf, statesOf, rowNo, rowGiven, row}
+use Rattle.convention.specs.Tables.{tableNo, tableOf, statesOf, rowNo, row}
 use Rattle.convention.specs.Built.{builtStates, builtTable, statesNumber, buildNo, buildAnswer, build, buildWrites, buildMemory}
 use Rattle.convention.specs.Judged.{judgeRoom, judgeNo, Judges}
 use Rattle.convention.proofs.Numbers.{or-zero, or-here, or-at, or-past, or-on, or-keeps, unless-zero, unless-true, unless-here}
 use Rattle.convention.proofs.Sheets.{sheet-read}
-use Rattle.convention.proofs.Tables.{row-is, row-some}
+use Rattle.convention.proofs.Tables.{row-refused, row-is, row-some}
 use Rattle.building.specs.Reached.{ReachMore}
 use Rattle.building.proofs.Reached.{eleven}
 use Rattle.teaselram.specs.declared.KindAnswer.{KindAnswer}
-use Rattle.teaselram.specs.Says.{kindGiven, kindNo, sheetKindSays, tableKindSays}
+use Rattle.teaselram.specs.Says.{kindGiven, askedNo, sheetKindSays, tableKindSays}
 use Rattle.demands.proofs.Tests.{test-passes, test-fails, test-other, test-keeps}
 use Rattle.demands.proofs.Reading.{sheet-refuses, table-refuses}
 use Rattle.demands.specs.Demands.{OneOf, BuildingRefuses, JudgingRefuses, RowRefuses, KindRefuses}
@@ -32,13 +32,13 @@ use Rattle.demands.specs.Demands.{OneOf, BuildingRefuses, JudgingRefuses
 -- ---- building
 
 -- What an answer tells of the number that it was made from.
-answer-refused : (number n len k : ℕ) → 0 < k → buildAnswer number n len ≡ Building.Refused k ↔ number ≡ k
-answer-refused zero n len k h = (λ e. absurd (let z : _≡_ {A = ℕ} 0 1 = cc in omega arith), λ e. absurd (omega arith))
-answer-refused (suc number) n len k h = (λ e. cc, λ e. rw e)
+refused-when : (number n len k : ℕ) → 0 < k → buildAnswer number n len ≡ Building.Refused k ↔ number ≡ k
+refused-when zero n len k h = (λ e. absurd (let z : _≡_ {A = ℕ} 0 1 = cc in omega arith), λ e. absurd (omega arith))
+refused-when (suc number) n len k h = (λ e. cc, λ e. rw e)
 
-answer-built : (number n len : ℕ) → buildingSays (buildAnswer number n len) .number ≡ 0 ↔ number ≡ 0
-answer-built zero n len = (λ e. refl, λ e. refl)
-answer-built (suc number) n len = (λ e. absurd (omega arith), λ e. absurd (omega arith))
+built-when : (number n len : ℕ) → buildingSays (buildAnswer number n len) .number ≡ 0 ↔ number ≡ 0
+built-when zero n len = (λ e. refl, λ e. refl)
+built-when (suc number) n len = (λ e. absurd (omega arith), λ e. absurd (omega arith))
 
 answer-others : (P : ℕ → Type 0) (number n len : ℕ) → P number → P (buildingSays (buildAnswer number n len) .number)
 answer-others P zero n len here = here
@@ -80,18 +80,18 @@ module _ (s out : List ℕ) where
       let len = length (builtTable stateLimit (sheetOf s)) in
       let past : (k : ℕ) → 6 < k → number ≡ k ↔ (sheetNo s ≡ 0) × (orElse many narrow ≡ k) = λ k h. or-past (sheetNo s) _ k (λ e. omega arith) in
       record {
-        reader = λ h. answer-refused number n len (sheetNo s) h .1 (or-here (sheetNo s) _ h);
-        eleven = Iff·trans (answer-refused number n len 11 (lit< tt)) (Iff·trans (past 11 (lit< tt)) (
+        reader = λ h. refused-when number n len (sheetNo s) h .1 (or-here (sheetNo s) _ h);
+        eleven = Iff·trans (refused-when number n len 11 (lit< tt)) (Iff·trans (past 11 (lit< tt)) (
           λ e. (e .0, more (e .0) .0 (or-at many narrow 11 (lit< tt) (test-other (leb len (length out)) 12 11 (lit< tt) (λ e. omega arith)) .0 (e .1))),
           λ e. (e .0, or-here many narrow (rw (more (e .0) .1 (e .1)) (lit< tt)) ∙ more (e .0) .1 (e .1)),
         ));
-        twelve = Iff·trans (answer-refused number n len 12 (lit< tt)) (Iff·trans (past 12 (lit< tt)) (
+        twelve = Iff·trans (refused-when number n len 12 (lit< tt)) (Iff·trans (past 12 (lit< tt)) (
           λ e.
               let both = or-past many narrow 12 (test-other (leb n stateLimit) 11 12 (lit< tt) (λ e. omega arith)) .0 (e .1) in
               (e .0, no-more (e .0) .0 (both .0), test-fails len _ 12 (lit< tt) .0 (both .1)),
           λ e. (e .0, or-on many narrow (no-more (e .0) .1 (e .1)) ∙ test-fails len _ 12 (lit< tt) .1 (e .2)),
         ));
-        success = Iff·trans (answer-built number n len) (
+        success = Iff·trans (built-when number n len) (
           λ e.
               let a = or-zero (sheetNo s) _ e in
               let b = or-zero many narrow (a .1) in
@@ -158,11 +158,6 @@ module _ (t out : List ℕ) where
 
 -- ---- a row
 
--- A part that a number refuses is empty.
-refused-empty : (number : ℕ) (part : List ℕ) → 0 < number → rowGiven number part ≡ []
-refused-empty zero part h = absurd (omega arith)
-refused-empty (suc number) part h = refl
-
 module _ (t : List ℕ) (state : ℕ) where
   abbrev beyond : ℕ
   beyond = unless (ltb state (statesOf t)) 13
@@ -184,7 +179,7 @@ module _ (t : List ℕ) (state : ℕ) where
           λ e. or-on _ beyond (e .0) ∙ unless-true _ 13 (lt-ltb state _ (e .1)),
         );
         empty = (
-          refused-empty _ _,
+          λ h. row-refused stateLimit t state (λ z. omega arith) .0,
           λ e. elim (eq-zero-or-pos (rowNo stateLimit t state)) [
             | inl z ↦ absurd (omega (arith, row-some stateLimit t state z, ap length e))
             | inr p ↦ p
@@ -197,7 +192,8 @@ module _ (t : List ℕ) (state : ℕ) where
 -- ---- one kind
 
 -- The number of asking for a kind, and the number that its answer has.
-kind-refuses : (readNo m k : ℕ) → readNo ≤ 7 → KindRefuses readNo m k (kindNo readNo m k)
+kind-refuses : (readNo m k : ℕ) → readNo ≤ 7 → KindRefuses readNo m k (askedNo readNo m k)
+unfolding OneOf
 kind-refuses readNo m k low = record {
   reader = λ h. or-here readNo _ h;
   nine =
@@ -207,6 +203,7 @@ kind-refuses readNo m k low = record {
     λ e. let both = or-zero readNo _ e in (both .0, ltb-true k m (unless-zero _ 9 (lit< tt) (both .1))),
     λ e. or-on readNo _ (e .0) ∙ unless-true _ 9 (lt-ltb k m (e .1)),
   );
+  others = or-keeps (OneOf (0 ∷ readNo ∷ 9 ∷ [])) readNo _ (inr (inl refl)) (test-keeps (OneOf (0 ∷ readNo ∷ 9 ∷ [])) (ltb k m) 9 (inl refl) (inr (inr (inl refl))));
 }
 
 kind-number : (number : ℕ) (answer : KindAnswer) → answer .number ≡ 0 → kindGiven number answer .number ≡ number
@@ -216,11 +213,11 @@ kind-number (suc number) answer e = refl
 pub sheet-kind-refuses : (s : List ℕ) (k : ℕ) → KindRefuses (sheetNo s) (sheetOf s .head .kinds) k (sheetKindSays s k .number)
 unfolding sheetKindSays sheetOf
 sheet-kind-refuses s k =
-    subst (KindRefuses (sheetNo s) (headOf s .kinds) k) (sym (kind-number (kindNo (sheetNo s) (headOf s .kinds) k) _ refl))
+    subst (KindRefuses (sheetNo s) (headOf s .kinds) k) (sym (kind-number (askedNo (sheetNo s) (headOf s .kinds) k) _ refl))
     (kind-refuses (sheetNo s) (headOf s .kinds) k (omega (arith, sheet-refuses s .others)))
 
 pub table-kind-refuses : (t : List ℕ) (k : ℕ) → KindRefuses (tableNo stateLimit t) (tableOf t .head .kinds) k (tableKindSays stateLimit t k .number)
 unfolding tableKindSays tableOf
 table-kind-refuses t k =
-    subst (KindRefuses (tableNo stateLimit t) (headOf t .kinds) k) (sym (kind-number (kindNo (tableNo stateLimit t) (headOf t .kinds) k) _ refl))
+    subst (KindRefuses (tableNo stateLimit t) (headOf t .kinds) k) (sym (kind-number (askedNo (tableNo stateLimit t) (headOf t .kinds) k) _ refl))
     (kind-refuses (tableNo stateLimit t) (headOf t .kinds) k (table-refuses stateLimit t .others))

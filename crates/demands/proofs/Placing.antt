@@ -9,7 +9,6 @@ use lib.Dec.{ltb, leb, lit<}
 use lib.ListN.{length, getD, take, drop, take-append-drop}
 use lib.Seq.{length-take-le}
 use borrow.Author.Tests.{ltb-true, ltb-false}
-use Rattle.convention.specs.declared.Offset.{Offset}
 use Rattle.convention.specs.declared.Placing.{Placing}
 use Rattle.convention.specs.declared.Placing.the-variants.{Placed, Unknown, Faulty}
 use Rattle.convention.specs.Numbers.{argumentLimit, orElse, unless, placingSays}
@@ -98,7 +97,7 @@ module _ (m : ℕ) (M : Steps) (ks : List ℕ) where
     | inr h ↦ rw h (walk-answers _ refl (known-below m ks (omega (arith, unknown-le m ks, ltb-false (unknownAt m ks) (length ks) h))))
   ]
 
-  -- Two of these three never hold of one answer, or of one list.
+  -- A list with an unknown kind is not one of known kinds.
   not-both : (at : ℕ) → FirstUnknown m ks at → KindsBelow m ks → ⊥
   not-both at f below = omega (arith, f .unknown, below-at m ks below at (f .inside))
 
@@ -171,14 +170,6 @@ module _ (m : ℕ) (M : Steps) (ks : List ℕ) where
   behind-others P zero here none nine ten = elim walked [ unknown at a f ↦ rw a nine | faulty at fault a b f ↦ rw a ten | placed a b f ↦ rw a none ]
   behind-others P (suc number) here none nine ten = here
 
-  behind-says : (number n : ℕ) (p : Offset) → placingAnswer number m M ks ≡ Placed n p → (n ≡ length ks) × (p ≡ M .p (stateFrom M (M .begin) ks))
-  behind-says zero n p e = elim walked [
-    | unknown at a f ↦ absurd (let z : _≡_ {A = ℕ} 0 1 = cc in omega arith)
-    | faulty at fault a b f ↦ absurd (let z : _≡_ {A = ℕ} 0 1 = cc in omega arith)
-    | placed a b f ↦ (cc, cc)
-  ]
-  behind-says (suc number) n p e = absurd (let z : _≡_ {A = ℕ} 0 1 = cc in omega arith)
-
 -- The answer and the output of placing, where reading gave no number above 7.
 module _ (read m : ℕ) (low : read ≤ 7) (M : Steps) (ks out : List ℕ) where
   abbrev many : ℕ
@@ -240,9 +231,3 @@ module _ (read m : ℕ) (low : read ≤ 7) (M : Steps) (ks out : List ℕ) where
         (inr (inr (inr (inr (inr (inl refl))))));
     untouched = placing-untouched _;
   }
-
-  -- Success answers the list's length and the walk's p.
-  pub placing-placed : (n : ℕ) (p : Offset) → placing argumentLimit read m M ks (length out) ≡ Placed n p
-      → (n ≡ length ks) × (p ≡ M .p (stateFrom M (M .begin) ks))
-  unfolding placing
-  placing-placed n p e = behind-says m M ks first n p e

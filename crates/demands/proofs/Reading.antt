@@ -31,7 +31,7 @@ later-test : (most : ℕ) (b : Bool) (n : ℕ) → leb 3 n ≡ true → n ≤ mo
 later-test most true n h k = later-none most
 later-test most false n h k = record { which = inr (leb-true 3 n h, k) }
 
--- What both files have.
+-- What both files have. (The comparisons are arguments so that the search finds them.)
 module _ (most : ℕ) (three : 3 ≤ most) (four : 4 ≤ most) (five : 5 ≤ most) where
   later-head : (s : List ℕ) → Later most (headNo s)
   unfolding headNo

@@ -2,7 +2,9 @@
 -- s is a sheet's bytes, t a table's, ks a list of kinds, out the caller's output before a call and `after` the output afterwards; all of them are any lists of numbers.
 --
 -- How to read a line: `A ↔ B` is A exactly when B; `A × B` A and B; `A ⊎ B` A or B; `A → ⊥` not A; `A → B` B where A holds; `(x : T) → A` A for every x; `(x : T) × A` A for some
--- x; `getD l i d` what stands at i in the list l, d past its end; `take n l` its first n, `drop n l` the others; `x .f` field f of x; `r ≡ Placed n p` that the answer r is `Placed`.
+-- x; `a ≡ b` that a is b; `a ∷ b ∷ []` the list of a and b; `getD l i d` what stands at i in the list l, d past its end; `take n l` its first n, `drop n l` the others; `x .f` field
+-- f of x. `sheetNo s` and `tableNo stateLimit t` are the number that reading gives, 0 where the file can be read; `sheetOf s` and `tableOf t` what was read; `..Says answer .number`
+-- an answer's number, 0 on success. `stateLimit` is 200, `argumentLimit` 400, `recordLength` 6.
 --
 -- Which definition is which call's, by its contract (docs/CONTRACTS.md): read_sheet `readSheet`, read_table `readTable`, row `row` with `rowNo`, place_by_rules `placeByRules` with
 -- `rulesMemory` for the output, place_by_table `placeByTable` with `tableMemory`, build `build` with `buildMemory`, judge `Judges`; sheet_kind and table_kind of the static library
@@ -13,8 +15,6 @@ use mathlib.Core.Logic.{_⊎_, _↔_}
 use mathlib.Core.List.{List, [], _∷_}
 use lib.ListN.{length, getD, take, drop}
 use Rattle.convention.specs.declared.Offset.{Offset}
-use Rattle.convention.specs.declared.Placement.{Placement}
-use Rattle.convention.specs.declared.Placement.the-variants.{Nowhere}
 use Rattle.convention.specs.declared.Placing.{Placing}
 use Rattle.convention.specs.declared.Placing.the-variants.{Placed, Unknown, Faulty}
 use Rattle.convention.specs.declared.Building.{Building}
@@ -25,7 +25,7 @@ use Rattle.convention.specs.Numbers.{stateLimit, argumentLimit, readingNo, plac
 use Rattle.convention.specs.Fields.{lengthField, versionAt}
 use Rattle.convention.specs.Sheets.{sheetNo, sheetOf, readSheet}
 use Rattle.convention.specs.Tables.{tableNo, tableOf, readTable, rowLength, rowAt, rowNo, row}
-use Rattle.convention.specs.Lists.{Steps, faultFrom, stopFrom, stateFrom, placesFrom, recordOf, recordLength}
+use Rattle.convention.specs.Lists.{Steps, placeBy, faultFrom, stopFrom, stateFrom, recordOf, recordLength}
 use Rattle.convention.specs.Rules.{byRules, placeByRules, rulesMemory}
 use Rattle.convention.specs.Walked.{byTable, placeByTable, tableMemory}
 use Rattle.convention.specs.Built.{builtTable, build, buildMemory}
@@ -35,6 +35,27 @@ use Rattle.convention.specs.WellPlaced.{WellPlaced}
 use Rattle.convention.specs.Promised.{SheetRead, TableRead}
 use Rattle.building.specs.Reached.{ReachMore}
 use Rattle.teaselram.specs.Says.{sheetKindSays, tableKindSays}
+
+-- A list of the kinds of a sheet, and of a table: each kind number is below m.
+abbrev pub OfSheet : List ℕ → List ℕ → Type 0
+OfSheet s ks = KindsBelow (sheetOf s .head .kinds) ks
+
+abbrev pub OfTable : List ℕ → List ℕ → Type 0
+OfTable t ks = KindsBelow (tableOf t .head .kinds) ks
+
+-- Either way of placing: where it stops, at its first faulty step or behind the list; and p behind the list. (`placeBy` is the place that it gives argument i.)
+abbrev pub stopBy : Steps → List ℕ → ℕ
+stopBy M ks = stopFrom M (M .begin) ks
+
+abbrev pub pBy : Steps → List ℕ → Offset
+pBy M ks = M .p (stateFrom M (M .begin) ks)
+
+-- The rules of a sheet, and a table.
+abbrev pub rules : List ℕ → Steps
+rules s = byRules (sheetOf s)
+
+abbrev pub table : List ℕ → Steps
+table t = byTable (tableOf t) t
 
 -- ---- Demand 1. 'Every entry point takes arbitrary bytes and any list of kinds, always ends, and checks for itself.' That is what it means that a function without
 -- a `requires` is proved. 'Each refusal is one of document 01's numbers, given exactly when the document says, and writes nothing to the caller's output.'
@@ -77,7 +98,7 @@ pub record PlacingRefuses (readNo m : ℕ) (M : Steps) (ks out : List ℕ) (answ
   pub twelve : answer ≡ Placing.Refused 12 ↔ (readNo ≡ 0) × (length ks ≤ argumentLimit) × (length out < recordLength * length ks)
   pub nine : (at : ℕ) → answer ≡ Unknown at ↔ Ready readNo ks out × FirstUnknown m ks at
   pub ten : (at fault : ℕ) → answer ≡ Faulty at fault ↔ Ready readNo ks out × KindsBelow m ks × FirstFault M ks at fault
-  pub success : answer ≡ Placed (length ks) (M .p (stateFrom M (M .begin) ks)) ↔ Ready readNo ks out × KindsBelow m ks × (faultFrom M (M .begin) ks ≡ 0)
+  pub success : answer ≡ Placed (length ks) (pBy M ks) ↔ Ready readNo ks out × KindsBelow m ks × (faultFrom M (M .begin) ks ≡ 0)
   pub others : OneOf (0 ∷ readNo ∷ 8 ∷ 12 ∷ 9 ∷ 10 ∷ []) (placingSays answer .number)
   pub untouched : 0 < placingSays answer .number → after ≡ out
 
@@ -114,6 +135,7 @@ pub record KindRefuses (readNo m k number : ℕ) : Type 0 where
   pub reader : 0 < readNo → number ≡ readNo
   pub nine : number ≡ 9 ↔ (readNo ≡ 0) × (m ≤ k)
   pub success : number ≡ 0 ↔ (readNo ≡ 0) × (k < m)
+  pub others : OneOf (0 ∷ readNo ∷ 9 ∷ []) number
 
 -- Demand 1, of every call. A file that was read has the values that 01 allows (`SheetRead`, `TableRead`); 'the final p is at most 31,600'.
 pub record Demand1 : Type 0 where
@@ -123,9 +145,9 @@ pub record Demand1 : Type 0 where
   pub table-values : (t : List ℕ) → readingNo (readTable stateLimit t .reading) ≡ 0 → TableRead stateLimit (readTable stateLimit t .table) t
   pub sheet-kinds : (s : List ℕ) (k : ℕ) → KindRefuses (sheetNo s) (sheetOf s .head .kinds) k (sheetKindSays s k .number)
   pub table-kinds : (t : List ℕ) (k : ℕ) → KindRefuses (tableNo stateLimit t) (tableOf t .head .kinds) k (tableKindSays stateLimit t k .number)
-  pub by-rules : (s ks out : List ℕ) → PlacingRefuses (sheetNo s) (sheetOf s .head .kinds) (byRules (sheetOf s)) ks out
+  pub by-rules : (s ks out : List ℕ) → PlacingRefuses (sheetNo s) (sheetOf s .head .kinds) (rules s) ks out
       (placeByRules argumentLimit s ks (length out)) (rulesMemory argumentLimit s ks out)
-  pub by-table : (t ks out : List ℕ) → PlacingRefuses (tableNo stateLimit t) (tableOf t .head .kinds) (byTable (tableOf t) t) ks out
+  pub by-table : (t ks out : List ℕ) → PlacingRefuses (tableNo stateLimit t) (tableOf t .head .kinds) (table t) ks out
       (placeByTable stateLimit argumentLimit t ks (length out)) (tableMemory stateLimit argumentLimit t ks out)
   pub builds : (s out : List ℕ) → BuildingRefuses s out (build stateLimit s (length out)) (buildMemory stateLimit s out)
   pub judges : (t out : List ℕ) (answer : Judging) (after : List ℕ) → Judges stateLimit t out answer after → JudgingRefuses t out answer after
@@ -136,36 +158,12 @@ pub record Demand1 : Type 0 where
 -- ---- Demand 2. 'A placement is the one that 01's rules give, argument by argument, down to the byte. A table built from a sheet gives that same placement, or stops
 -- at the same argument, for every list of kinds of any length.'
 
--- A list of the kinds of a sheet, and of a table: each kind number is below m.
-abbrev pub OfSheet : List ℕ → List ℕ → Type 0
-OfSheet s ks = KindsBelow (sheetOf s .head .kinds) ks
-
-abbrev pub OfTable : List ℕ → List ℕ → Type 0
-OfTable t ks = KindsBelow (tableOf t .head .kinds) ks
-
--- Either way of placing: the place that it gives argument i of a list; where it stops, at its first faulty step or behind the list; p behind the list.
-abbrev pub placeBy : Steps → List ℕ → ℕ → Placement
-placeBy M ks i = getD (placesFrom M (M .begin) ks) i Nowhere
-
-abbrev pub stopBy : Steps → List ℕ → ℕ
-stopBy M ks = stopFrom M (M .begin) ks
-
-abbrev pub pBy : Steps → List ℕ → Offset
-pBy M ks = M .p (stateFrom M (M .begin) ks)
-
--- The rules of a sheet, and a table.
-abbrev pub rules : List ℕ → Steps
-rules s = byRules (sheetOf s)
-
-abbrev pub table : List ℕ → Steps
-table t = byTable (tableOf t) t
-
 -- A list that was placed: the answer is its length and p, the record of each argument is that of its place, and the bytes behind the records are left.
 pub record DownToTheByte (M : Steps) (ks out : List ℕ) (n : ℕ) (p : Offset) (after : List ℕ) : Type 0 where
   pub count : n ≡ length ks
   pub final : p ≡ pBy M ks
   pub records : (i : ℕ) → i < length ks → take recordLength (drop (recordLength * i) after) ≡ recordOf (placeBy M ks i)
-  pub others : drop (recordLength * length ks) after ≡ drop (recordLength * length ks) out
+  pub behind : drop (recordLength * length ks) after ≡ drop (recordLength * length ks) out
 
 -- A table t gives the same places as the rules of s, stops where they stop and ends at the same p; and the two calls give the same answer and leave the same output.
 pub record PlacesAlike (s t : List ℕ) : Type 0 where
@@ -181,7 +179,7 @@ pub record BuiltBytes (s out : List ℕ) (n len : ℕ) (after : List ℕ) : Type
   pub readable : tableNo stateLimit (take len after) ≡ 0
   pub states : tableOf (take len after) .states ≡ n
   pub alike : PlacesAlike s (take len after)
-  pub others : drop len after ≡ drop len out
+  pub behind : drop len after ≡ drop len out
 
 -- Demand 2, of the placing calls and of building.
 pub record Demand2 : Type 0 where
@@ -205,7 +203,7 @@ pub record ComesBack (t out : List ℕ) (fault n : ℕ) (after : List ℕ) : Typ
   pub list : FirstWrong t (take n after)
   pub long : length (take n after) ≡ n
   pub says : fault ≡ listFault t (take n after)
-  pub others : drop n after ≡ drop n out
+  pub behind : drop n after ≡ drop n out
 
 -- The answer is clean exactly when every list goes right, and then nothing is written; or it is a fault, with its list.
 pub record JudgedRight (t out : List ℕ) (answer : Judging) (after : List ℕ) : Type 0 where
@@ -214,8 +212,9 @@ pub record JudgedRight (t out : List ℕ) (answer : Judging) (after : List ℕ) 
   pub failed : (fault n : ℕ) → answer ≡ Fault fault n → ComesBack t out fault n after
   pub either : (answer ≡ Clean) ⊎ ((fault n : ℕ) × (answer ≡ Fault fault n))
 
--- Demand 3, of whatever answer and output judging gives; and of 01's faults: a list has none exactly where it goes right.
+-- Demand 3: judging has an answer on every input; whatever answer and output it gives is right; and of 01's faults a list has none exactly where it goes right.
 pub record Demand3 : Type 0 where
+  pub answered : (t out : List ℕ) → (answer : Judging) × (after : List ℕ) × Judges stateLimit t out answer after
   pub judged : (t out : List ℕ) (answer : Judging) (after : List ℕ) → tableNo stateLimit t ≡ 0 → 2 * tableOf t .states ≤ length out
       → Judges stateLimit t out answer after → JudgedRight t out answer after
   pub faults : (t ks : List ℕ) → tableNo stateLimit t ≡ 0 → OfTable t ks → listFault t ks ≡ 0 ↔ WellPlaced t ks

@@ -1,8 +1,8 @@
 -- What building with the program's room means: no table needs more, so number 12 is never given, and a table that is built can be judged.
-use Prim.Native.Nat.{ℕ, zero, suc, _*_, _≤_}
+use Prim.Native.Nat.{ℕ, zero, suc, _≤_}
 use mathlib.Core.Path.{_≡_, refl, sym, _∙_}
 use mathlib.Core.List.{List}
-use native.Mathlib.Nat.{le-refl, mul-le-mul}
+use native.Mathlib.Nat.{le-refl}
 use native.Mathlib.Omega.{arith}
 use lib.ListN.{length, take}
 use borrow.Author.Tests.{le-leb}
@@ -14,9 +14,8 @@ use Rattle.convention.specs.Numbers.{stateLimit, orElse}
 use Rattle.convention.specs.Fields.{headOf}
 use Rattle.convention.specs.Sheets.{sheetNo, sheetOf}
 use Rattle.convention.specs.Built.{builtStates, builtTable, statesNumber, buildNo, build, buildMemory}
-use Rattle.convention.proofs.Sheets.{sheet-read}
-use Rattle.building.proofs.Readable.{built-length, built-head, built-states}
-use Rattle.building.proofs.Bytes.{states-fit, built-says, built-readable, bytes-are, bytes-within}
+use Rattle.building.proofs.Readable.{built-head, built-states}
+use Rattle.building.proofs.Bytes.{table-most, built-says, built-readable, bytes-are, bytes-within}
 use Rattle.judge_sheet.specs.Texts.{lineRoom, tableRoom, TableAsks}
 
 -- Two tests in order agree where the later ones agree behind a first that passes.
@@ -31,19 +30,12 @@ module _ (s : List ℕ) where
   abbrev table : List ℕ
   table = builtTable stateLimit (sheetOf s)
 
-  -- A table has at most 8 kinds and 200 states.
-  table-most : sheetNo s ≡ 0 → statesNumber stateLimit (sheetOf s) ≡ 0 → length table ≤ tableRoom
-  table-most read e =
-      let head = sheet-read s read .head in
-      let row : 4 * sheetOf s .head .kinds ≤ 32 = omega (arith, head .kinds) in
-      omega (arith, built-length (sheetOf s) (builtStates stateLimit (sheetOf s)), mul-le-mul row (states-fit stateLimit s e), head .kinds)
-
-  -- So the program's room is as good as the table's length.
+  -- The program's room is as good as the table's length.
   same-no : buildNo stateLimit s tableRoom ≡ buildNo stateLimit s (length table)
   unfolding buildNo
   same-no =
       or-same (sheetNo s) _ _ λ read.
-      or-same (statesNumber stateLimit (sheetOf s)) _ _ λ e. rw (le-leb _ _ (table-most read e), le-leb _ _ (le-refl (length table)))
+      or-same (statesNumber stateLimit (sheetOf s)) _ _ λ e. rw (le-leb _ _ (table-most s read e), le-leb _ _ (le-refl (length table)))
 
   pub room-enough : build stateLimit s tableRoom ≡ build stateLimit s (length (builtTable stateLimit (sheetOf s)))
   unfolding build

@@ -6,7 +6,7 @@ use mathlib.Core.List.{List, _++_}
 use lib.Dec.{lit<}
 use lib.ListN.{length, take, drop, length-append, length-drop}
 use lib.Seq.{length-slice, take-length, take-at, drop-at}
-use borrow.Author.Tests.{le-leb, lt-leb}
+use borrow.Author.Tests.{lt-leb}
 use Rattle.convention.specs.declared.Offset.{Offset}
 use Rattle.convention.specs.declared.Table.{Table}
 use Rattle.convention.specs.declared.TableAnswer.{TableAnswer}
@@ -27,6 +27,7 @@ use Rattle.judging.specs.Watched.{nodes, LeastBelow}
 use Rattle.judging.specs.Memory.{bestEnd, listAt}
 use Rattle.judging.specs.Found.{FindAsks, BestIs, JudgeAsks}
 use Rattle.judging.proofs.Verdict.{clean, least-first}
+use Rattle.judging.proofs.Unique.{judge-passes}
 use Rattle.judging.proofs.Finding.{slice-take}
 
 -- ---- a table that was read
@@ -37,8 +38,7 @@ module _ (table : Table) (t before out : List ℕ) (asks : JudgeAsks table t bef
 
   -- Nothing is refused.
   number : judgeNo stateLimit t (length out) ≡ 0
-  unfolding judgeNo
-  number = rw (asks .right, ← asks .is, le-leb _ _ (asks .fits))
+  number = judge-passes stateLimit t (length out) (asks .right) (rw (← asks .is) (asks .fits))
 
   -- It can be searched.
   pub judge-finds : FindAsks table t before

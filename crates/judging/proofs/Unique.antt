@@ -2,24 +2,28 @@
 -- the other, and of two different lists one is.
 use Prim.Native.Nat.{ℕ, _≤_}
 use native.Mathlib.Omega.{arith}
-use mathlib.Core.Path.{_≡_, refl}
+use mathlib.Core.Path.{_≡_, refl, _∙_}
 use mathlib.Core.Logic.{inl, inr}
 use mathlib.Core.List.{List}
 use lib.Dec.{lit<}
 use lib.ListN.{length, take, take-append-drop}
 use lib.Seq.{length-take-le}
-use borrow.Author.Tests.{leb-true}
+use borrow.Author.Tests.{leb-true, le-leb}
 use Rattle.convention.specs.declared.Judging.{Judging}
 use Rattle.convention.specs.declared.Judging.the-variants.{Clean, Fault}
 use Rattle.convention.specs.Tables.{tableNo}
 use Rattle.convention.specs.Judged.{CleanTable, FirstFaulty, judgeRoom, judgeNo, Judges}
-use Rattle.convention.proofs.Numbers.{or-zero, unless-zero}
+use Rattle.convention.proofs.Numbers.{or-zero, or-on, unless-zero, unless-true}
 use Rattle.convention.proofs.Shortlex.{before-total}
 
--- Judging has no number where the table can be read and the room is enough.
+-- Judging has no number exactly where the table can be read and the room is enough.
 pub judge-zero : (limit : ℕ) (t : List ℕ) (room : ℕ) → judgeNo limit t room ≡ 0 → (tableNo limit t ≡ 0) × (judgeRoom t ≤ room)
 unfolding judgeNo
 judge-zero limit t room e = let both = or-zero (tableNo limit t) _ e in (both .0, leb-true _ room (unless-zero _ 12 (lit< tt) (both .1)))
+
+pub judge-passes : (limit : ℕ) (t : List ℕ) (room : ℕ) → tableNo limit t ≡ 0 → judgeRoom t ≤ room → judgeNo limit t room ≡ 0
+unfolding judgeNo
+judge-passes limit t room e h = or-on _ _ e ∙ unless-true _ 12 (le-leb _ _ h)
 
 -- There is one first faulty list.
 pub first-unique : (t : List ℕ) (f f′ : ℕ) (ks ks′ : List ℕ) → FirstFaulty t f ks → FirstFaulty t f′ ks′ → ks ≡ ks′

@@ -2,14 +2,13 @@
 -- knows whether what it watches was given; a step without a fault has none in any watched walk, and a step with one has one in some watched walk.
 use Prim.Native.Nat.{ℕ, _+_, _*_, _%_, _≤_, _<_}
 use native.Mathlib.Nat.{eq-zero-or-pos}
-use native.Mathlib.Decide.{decLt}
 use native.Mathlib.Omega.{arith}
 use mathlib.Core.Path.{_≡_, refl, sym, ap, _∙_}
 use mathlib.Core.Logic.{inl, inr}
 use mathlib.Core.Bool.{Bool, true, false, cond, _&&_, _||_, and-false, or-false, false≢true}
 use mathlib.Core.List.{List, [], _∷_, _++_}
 use lib.Dec.{eqb, lit<}
-use lib.ListN.{length, getD, getD-replicate, List·getD-eq-default}
+use lib.ListN.{length, getD}
 use borrow.Author.Tests.{eqb-true, eq-eqb, ne-eqb}
 use Rattle.convention.specs.declared.Head.{Head}
 use Rattle.convention.specs.declared.TableKind.{TableKind}
@@ -26,7 +25,7 @@ use Rattle.convention.specs.Judged.{KindsBelow}
 use Rattle.convention.specs.Promised.{TableRead}
 use Rattle.convention.proofs.Numbers.{or-zero, unless-zero}
 use Rattle.convention.proofs.Tables.{transition-registers, transition-next}
-use Rattle.convention.proofs.Runs.{either, free-some}
+use Rattle.convention.proofs.Runs.{either, free-some, none-taken}
 use Rattle.convention.proofs.Lists.{holds-along}
 use Rattle.convention.proofs.Exploring.{Decides, leads-unique, met-holds, few}
 use Rattle.walking.proofs.Given.{Walking, begin-walking, step-walking}
@@ -39,17 +38,11 @@ use Rattle.judging.proofs.Fronts.{below-snoc, snoc-faulty}
 
 -- ---- one step
 
--- Before the first argument no register is given, and every run is free.
-none-given : (r : ℕ) → getD noRegisters r false ≡ false
-none-given r = elim (decLt r 16) [
-  | yes h ↦ getD-replicate 16 r false false h
-  | no h ↦ List·getD-eq-default noRegisters false {n = r} (omega arith)
-]
-
+-- Before the first argument every run is free.
 all-free : (first count : ℕ) → freeRun noRegisters first count ≡ true
 all-free first count = elim (either (freeRun noRegisters first count)) [
   | inl e ↦ e
-  | inr e ↦ let (r, _, _, given) = free-some noRegisters first count e in absurd (false≢true (sym (none-given r) ∙ given))
+  | inr e ↦ let (r, _, _, given) = free-some noRegisters first count e in absurd (false≢true (sym (none-taken 16 r) ∙ given))
 ]
 
 -- Whether what is watched is among the given registers.
@@ -152,7 +145,7 @@ node-after h x s within watch = ap (nodeOf (x .next)) (given-after h x s within 
 
 -- At first nothing that is watched is given.
 none-among : (watch : Watch) → amongGiven noRegisters watch ≡ false
-none-among (Register r) = none-given (r .0)
+none-among (Register r) = none-taken 16 (r .0)
 none-among Nothing = refl
 
 -- ---- the two walks

@@ -15,12 +15,13 @@ use Rattle.convention.specs.Judged.{KindsBelow}
 use Rattle.convention.proofs.Numbers.{or-zero, unless-zero}
 use Rattle.convention.proofs.Lists.{known-below, unknown-le}
 
--- The file was read, the list is short enough and of known kinds, no step is faulty, and p is the walk's.
-pub record Accepted (limit number m : ℕ) (M : Steps) (ks : List ℕ) (p : Offset) : Type 0 where
+-- The file was read, the list is short enough and of known kinds, no step is faulty, n is its length and p the walk's.
+pub record Accepted (limit number m : ℕ) (M : Steps) (ks : List ℕ) (n : ℕ) (p : Offset) : Type 0 where
   pub read : number ≡ 0
   pub short : length ks ≤ limit
   pub below : KindsBelow m ks
   pub clean : faultFrom M (M .begin) ks ≡ 0
+  pub count : length ks ≡ n
   pub final : M .p (stateFrom M (M .begin) ks) ≡ p
 
 -- What it says of the number, of unknown kinds and of the walk; and so of all.
@@ -34,12 +35,12 @@ module _ (n : ℕ) (p : Offset) where
   none-unknown true at walked e = absurd (let z : _≡_ {A = ℕ} 0 1 = cc in omega arith)
   none-unknown false at walked e = (refl, e)
 
-  no-fault : (fault stop count : ℕ) (p′ : Offset) → walkAnswer fault stop count p′ ≡ Placed n p → (fault ≡ 0) × (p′ ≡ p)
-  no-fault zero stop count p′ e = (refl, cc)
+  no-fault : (fault stop count : ℕ) (p′ : Offset) → walkAnswer fault stop count p′ ≡ Placed n p → (fault ≡ 0) × (count ≡ n) × (p′ ≡ p)
+  no-fault zero stop count p′ e = (refl, cc, cc)
   no-fault (suc fault) stop count p′ e = absurd (let z : _≡_ {A = ℕ} 0 1 = cc in omega arith)
 
   pub accepted : (limit number m : ℕ) (M : Steps) (ks : List ℕ) (room : ℕ) → placing limit number m M ks room ≡ Placed n p
-      → Accepted limit number m M ks p
+      → Accepted limit number m M ks n p
   unfolding placing
   accepted limit number m M ks room e =
       let none = no-number _ m M ks e in
@@ -51,5 +52,6 @@ module _ (n : ℕ) (p : Offset) where
         short = leb-true (length ks) limit (unless-zero _ 8 (omega arith) (or-zero _ _ (both .1) .0));
         below = known-below m ks (omega (arith, unknown-le m ks, ltb-false (unknownAt m ks) (length ks) (known .0)));
         clean = walked .0;
-        final = walked .1;
+        count = walked .1;
+        final = walked .2;
       }

@@ -124,7 +124,7 @@ module _ (M : Steps) (taken : M .State → List Bool) (Good : M .State → Type 
         omega arith
     given-apart a given (inr (x, has, here)) = omega (arith, given-behind a given x x has here)
 
-  -- It shares nothing with any later place.
+  -- What was given out before shares nothing with any later place.
   later-apart : (a : Placement) (s : M .State) (ks : List ℕ) → Good s → KindsBelow m ks → faultFrom M s ks ≡ 0 → Given a s
       → (j : ℕ) → j < length ks → Share a (getD (placesFrom M s ks) j Nowhere) → ⊥
   unfolding faultFrom placesFrom KindsBelow

@@ -142,7 +142,7 @@ module _ (sheet : Sheet) (read : SheetRead sheet) where
 
 -- So of a list that a call has placed.
 module _ (s ks : List ℕ) (room n : ℕ) (p : Offset) (placed : placeByRules argumentLimit s ks room ≡ Placed n p) where
-  means : Accepted argumentLimit (sheetNo s) (sheetOf s .head .kinds) (byRules (sheetOf s)) ks p
+  means : Accepted argumentLimit (sheetNo s) (sheetOf s .head .kinds) (byRules (sheetOf s)) ks n p
   unfolding placeByRules
   means = accepted n p argumentLimit (sheetNo s) (sheetOf s .head .kinds) (byRules (sheetOf s)) ks room placed
 

@@ -21,18 +21,18 @@ use Rattle.convention.specs.Lists.{Steps, recordLength, unknownAt, faultFrom, s
 use Rattle.convention.specs.Sheets.{sheetKindAt, firstStartAt, sheetNo, sheetOf, readSheet, sheetKind}
 use Rattle.convention.specs.Rules.{byRules, placeByRules}
 use Rattle.convention.specs.Walked.{byTable, placeByTable}
-use Rattle.convention.specs.Built.{builtStates, builtTable, buildNo, buildAnswer, build}
+use Rattle.convention.specs.Built.{builtStates, builtTable, buildNo, buildAnswer, build, statesNumber}
 use Rattle.convention.specs.Judged.{Judges}
 use Rattle.convention.proofs.Lists.{stop-le}
 use Rattle.convention.proofs.Numbers.{or-zero, or-first, or-later, unless-zero}
 use Rattle.convention.proofs.Tables.{table-read, row-refused, row-tests, row-start, row-length, row-some}
 use Rattle.convention.proofs.Sheets.{sheet-read, first-start-fits}
 use Rattle.sheet.specs.Kinds.{KindThere}
-use Rattle.building.proofs.Readable.{built-length}
+use Rattle.building.proofs.Bytes.{table-most}
 use Rattle.judging.proofs.Unique.{judge-zero, unique}
 use Rattle.teaselram.specs.declared.Answer.{Answer}
 use Rattle.teaselram.specs.declared.KindAnswer.{KindAnswer}
-use Rattle.teaselram.specs.Says.{answerOf, kindNo, kindRefusal, kindGiven, sheetKindFields, tableKindFields, sheetKindSays, tableKindSays, rowSays, CountFits, LengthFits, ListFits, JudgeSays}
+use Rattle.teaselram.specs.Says.{answerOf, askedNo, kindRefusal, kindGiven, sheetKindFields, tableKindFields, sheetKindSays, tableKindSays, rowSays, CountFits, LengthFits, ListFits, JudgeSays}
 
 -- An answer that is known to be one of its cases says what that case says.
 pub known-says : (placing known : Placing) (a : Answer) → placing ≡ known → a ≡ answerOf (placingSays known) → a ≡ answerOf (placingSays placing)
@@ -125,18 +125,18 @@ module _ (t : List ℕ) (state : ℕ) (part : List ℕ) (ep : part ≡ row state
 
 -- Asking for a kind of a file: the reader's number decides, and then the kind's.
 module _ (n m k number : ℕ) (e : number ≡ n) where
-  pub kind-unread : (number ≡ 0 → ⊥) → number ≡ kindNo n m k
+  pub kind-unread : (number ≡ 0 → ⊥) → number ≡ askedNo n m k
   kind-unread nz = or-first n _ number e nz
 
   module _ (z : number ≡ 0) where
-    pub kind-found : k < m → 0 ≡ kindNo n m k
+    pub kind-found : k < m → 0 ≡ askedNo n m k
     kind-found l = or-later n _ number 0 e z (rw (lt-ltb _ _ l))
 
-    pub kind-missing : m ≤ k → 9 ≡ kindNo n m k
+    pub kind-missing : m ≤ k → 9 ≡ askedNo n m k
     kind-missing l = or-later n _ number 9 e z (rw (le-ltb _ _ l))
 
 -- The number that the reader's answer leads to is the file's own, whose head an answer that was read carries.
-number-asked : (n m m′ k number : ℕ) → (n ≡ 0 → m ≡ m′) → number ≡ kindNo (readingNo (reading n)) m k → number ≡ kindNo n m′ k
+number-asked : (n m m′ k number : ℕ) → (n ≡ 0 → m ≡ m′) → number ≡ askedNo (readingNo (reading n)) m k → number ≡ askedNo n m′ k
 number-asked zero m m′ k number same e = rw (← same refl) e
 number-asked (suc n) m m′ k number same e = e
 
@@ -145,20 +145,20 @@ kind-refused : (n number : ℕ) (answer fields : KindAnswer) → number ≡ n �
 kind-refused zero number answer fields e nz ea = absurd (nz e)
 kind-refused (suc n) number answer fields e nz ea = rw (← e) ea
 
-kind-known : (n m k number : ℕ) → number ≡ kindNo n m k → number ≡ 0 → (n ≡ 0) × (k < m)
+kind-known : (n m k number : ℕ) → number ≡ askedNo n m k → number ≡ 0 → (n ≡ 0) × (k < m)
 kind-known n m k number e z =
     let both = or-zero n _ (sym e ∙ z) in
     (both .0, ltb-true k m (unless-zero (ltb k m) 9 (omega arith) (both .1)))
 
 module _ (s : List ℕ) (k number : ℕ) (a : SheetAnswer) (ea : a ≡ readSheet s)
-    (en : number ≡ kindNo (readingNo (a .reading)) (a .sheet .head .kinds) k) where
-  sheet-number : number ≡ kindNo (sheetNo s) (headOf s .kinds) k
+    (en : number ≡ askedNo (readingNo (a .reading)) (a .sheet .head .kinds) k) where
+  sheet-number : number ≡ askedNo (sheetNo s) (headOf s .kinds) k
   unfolding readSheet sheetOf
   sheet-number = number-asked (sheetNo s) _ _ k number (λ z. rw z) (rw ea at en)
 
   pub sheet-kind-refused : (answer : KindAnswer) → (number ≡ 0 → ⊥) → answer ≡ kindRefusal number → answer ≡ sheetKindSays s k
   unfolding sheetKindSays
-  sheet-kind-refused answer nz e = kind-refused (kindNo (sheetNo s) (headOf s .kinds) k) number answer _ sheet-number nz e
+  sheet-kind-refused answer nz e = kind-refused (askedNo (sheetNo s) (headOf s .kinds) k) number answer _ sheet-number nz e
 
   module _ (z : number ≡ 0) where
     sheet-known : (sheetNo s ≡ 0) × (k < headOf s .kinds)
@@ -180,14 +180,14 @@ module _ (s : List ℕ) (k number : ℕ) (a : SheetAnswer) (ea : a ≡ readSheet
     sheet-kind-given at answer e is = rw (sym sheet-number ∙ z, is, ea, e, sheet-known .0)
 
 module _ (t : List ℕ) (k number : ℕ) (a : TableAnswer) (ea : a ≡ readTable stateLimit t)
-    (en : number ≡ kindNo (readingNo (a .reading)) (a .table .head .kinds) k) where
-  table-number : number ≡ kindNo (tableNo stateLimit t) (headOf t .kinds) k
+    (en : number ≡ askedNo (readingNo (a .reading)) (a .table .head .kinds) k) where
+  table-number : number ≡ askedNo (tableNo stateLimit t) (headOf t .kinds) k
   unfolding readTable tableOf
   table-number = number-asked (tableNo stateLimit t) _ _ k number (λ z. rw z) (rw ea at en)
 
   pub table-kind-refused : (answer : KindAnswer) → (number ≡ 0 → ⊥) → answer ≡ kindRefusal number → answer ≡ tableKindSays stateLimit t k
   unfolding tableKindSays
-  table-kind-refused answer nz e = kind-refused (kindNo (tableNo stateLimit t) (headOf t .kinds) k) number answer _ table-number nz e
+  table-kind-refused answer nz e = kind-refused (askedNo (tableNo stateLimit t) (headOf t .kinds) k) number answer _ table-number nz e
 
   module _ (z : number ≡ 0) where
     table-known : (tableNo stateLimit t ≡ 0) × (k < headOf t .kinds)
@@ -215,19 +215,14 @@ known-verdict verdict known a e is = rw e is
 pub list-known : (verdict known : Judging) → ListFits verdict → verdict ≡ known → judgingSays known .count < 65536
 list-known verdict known fits e = rw e at (fits .fits)
 
--- A table of at most 200 states and 8 kinds has at most 6,424 bytes.
+-- The length of a table that is built fits.
 pub length-fits : (s : List ℕ) (room : ℕ) (building : Building) → building ≡ build stateLimit s room → LengthFits building
 unfolding build buildNo
 length-fits s room building e = rw e (record { fits = omega (arith, most (buildNo stateLimit s room) refl) })
   where
     most : (n : ℕ) → buildNo stateLimit s room ≡ n
         → buildingSays (buildAnswer n (length (builtStates stateLimit (sheetOf s))) (length (builtTable stateLimit (sheetOf s)))) .value ≤ 6424
-    most zero z =
-        let both = or-zero (sheetNo s) _ z in
-        let promised = sheet-read s (both .0) in
-        let few = leb-true (length (builtStates stateLimit (sheetOf s))) stateLimit (unless-zero _ 11 (omega arith) (or-zero (unless (leb (length (builtStates stateLimit (sheetOf s))) stateLimit) 11) _ (both .1) .0)) in
-        let row : 4 * sheetOf s .head .kinds ≤ 32 = omega (arith, promised .head .kinds) in
-        omega (arith, built-length (sheetOf s) (builtStates stateLimit (sheetOf s)), mul-le-mul row few, promised .head .kinds)
+    most zero z = let both = or-zero (sheetNo s) _ z in table-most s (both .0) (or-zero (statesNumber stateLimit (sheetOf s)) _ (both .1) .0)
     most (suc n) z = omega arith
 
 -- A verdict's list has at most 2N kinds, which are at most 400.

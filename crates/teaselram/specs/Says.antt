@@ -63,8 +63,8 @@ kindGiven zero answer = answer
 kindGiven (suc number) answer = kindRefusal (suc number)
 
 -- The number of asking for kind k of a file with m kinds: the reader's, then 9.
-abbrev pub kindNo : ℕ → ℕ → ℕ → ℕ
-kindNo number m k = orElse number (unless (ltb k m) 9)
+abbrev pub askedNo : ℕ → ℕ → ℕ → ℕ
+askedNo number m k = orElse number (unless (ltb k m) 9)
 
 -- A sheet's kind: every field but the starts, and where in the sheet the first of them stands. A table's kind: size and alignment.
 abbrev pub sheetKindFields : SheetKind → ℕ → KindAnswer
@@ -74,10 +74,10 @@ abbrev pub tableKindFields : TableKind → KindAnswer
 tableKindFields kind = kindSays (kind .size) (kind .alignment) 0 0 0
 
 unfoldable pub sheetKindSays : List ℕ → ℕ → KindAnswer
-sheetKindSays s k = kindGiven (kindNo (sheetNo s) (headOf s .kinds) k) (sheetKindFields (sheetKind (sheetOf s) k) (firstStartAt s k))
+sheetKindSays s k = kindGiven (askedNo (sheetNo s) (headOf s .kinds) k) (sheetKindFields (sheetKind (sheetOf s) k) (firstStartAt s k))
 
 unfoldable pub tableKindSays : ℕ → List ℕ → ℕ → KindAnswer
-tableKindSays limit t k = kindGiven (kindNo (tableNo limit t) (headOf t .kinds) k) (tableKindFields (tableKind (tableOf t) k))
+tableKindSays limit t k = kindGiven (askedNo (tableNo limit t) (headOf t .kinds) k) (tableKindFields (tableKind (tableOf t) k))
 
 -- Asking for a row: the number, how long the part is, and where it starts in the table. A part that is refused is empty and starts at 0.
 unfoldable pub rowSays : ℕ → List ℕ → ℕ → Said

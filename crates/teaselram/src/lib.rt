@@ -14,7 +14,7 @@ ghost use Rattle.convention.specs.Sheets.{readSheet};
 ghost use Rattle.convention.specs.Tables.{readTable};
 ghost use Rattle.convention.specs.Rules.{placeByRules, rulesMemory};
 ghost use Rattle.convention.specs.Walked.{placeByTable, tableMemory};
-ghost use Rattle.teaselram.specs.Says.{answerOf, headSays, sheetSays, tableSays, kindNo, kindRefusal, kindSays, sheetKindSays, tableKindSays, rowSays, CountFits, LengthFits, ListFits, JudgeSays};
+ghost use Rattle.teaselram.specs.Says.{answerOf, headSays, sheetSays, tableSays, askedNo, kindRefusal, kindSays, sheetKindSays, tableKindSays, rowSays, CountFits, LengthFits, ListFits, JudgeSays};
 
 #[repr(C)]
 pub struct Answer {
@@ -143,8 +143,8 @@ fn head_says(reading: Reading, head: Head, states: u16) -> HeadAnswer
 }
 
 // The number of asking for a kind of a file: the reader's, and then 9 where the file has no such kind.
-fn kind_no(reading: Reading, head: Head, kind: u64) -> u8
-    ensures { λ r. ⌜ r ≡ kindNo (readingNo reading) (head .kinds) kind ⌝ }
+fn asked_no(reading: Reading, head: Head, kind: u64) -> u8
+    ensures { λ r. ⌜ r ≡ askedNo (readingNo reading) (head .kinds) kind ⌝ }
 {
     let number = reading_no(reading);
     if number != 0 {
@@ -218,7 +218,7 @@ pub extern "C" fn teaselram_sheet_kind(sheet: &[u8], kind: u64) -> KindAnswer
     let reading = read.reading;
     let given = read.sheet;
     let head = given.head;
-    let number = kind_no(reading, head, kind);
+    let number = asked_no(reading, head, kind);
     if number != 0 {
         return kind_refusal(number);
     }
@@ -237,7 +237,7 @@ pub extern "C" fn teaselram_table_kind(table: &[u8], kind: u64) -> KindAnswer
     let reading = read.reading;
     let given = read.table;
     let head = given.head;
-    let number = kind_no(reading, head, kind);
+    let number = asked_no(reading, head, kind);
     if number != 0 {
         return kind_refusal(number);
     }

@@ -1,6 +1,6 @@
 -- A list goes right exactly where no step of it has a fault. Where no step has one, the walk's places are right and share nothing (proofs/Given.antt). For the other
 -- way, a register that is marked as given belongs to an earlier argument's place, so a step whose place is right and shares nothing with those has no fault.
-use Prim.Native.Nat.{ℕ, zero, suc, _+_, _<_}
+use Prim.Native.Nat.{ℕ, suc, _+_, _<_}
 use mathlib.Core.Path.{_≡_, refl, sym, _∙_}
 use mathlib.Core.Logic.{_⊎_, inl, inr, _↔_}
 use mathlib.Core.Bool.{Bool, true, false, true≢false}
@@ -8,7 +8,7 @@ use mathlib.Core.List.{List, [], _∷_}
 use native.Mathlib.Decide.{decLe, decLt}
 use native.Mathlib.Omega.{arith}
 use lib.Dec.{eqb}
-use lib.ListN.{length, getD, replicate}
+use lib.ListN.{length, getD}
 use borrow.Author.Tests.{le-leb, eq-eqb, eqb-true}
 use Rattle.convention.specs.declared.Table.{Table}
 use Rattle.convention.specs.declared.TableKind.{TableKind}
@@ -26,14 +26,8 @@ use Rattle.convention.specs.Promised.{TableRead}
 use Rattle.convention.proofs.Numbers.{or-on, unless-true}
 use Rattle.convention.proofs.Offsets.{offset-residue, divides}
 use Rattle.convention.proofs.Tables.{transition-residue}
-use Rattle.convention.proofs.Runs.{either, free-some, mark-out}
+use Rattle.convention.proofs.Runs.{either, none-taken, free-some, mark-out}
 use Rattle.walking.proofs.Given.{Walking, begin-walking, step-walking, table-right, table-apart}
-
--- Of no registers none is taken.
-none : (n r : ℕ) → getD (replicate n false) r false ≡ false
-none zero r = refl
-none (suc n) zero = refl
-none (suc n) (suc r) = none n r
 
 -- What is taken once a place was given out is the place's, or was taken before.
 taken-whose : (place : Placement) (taken : List Bool) (r : ℕ) → getD (placeTaken place taken) r false ≡ true
@@ -110,5 +104,5 @@ pub well-placed : (limit : ℕ) (t ks : List ℕ) → TableRead limit (tableOf t
 well-placed limit t ks read below = (
   λ e. record { right = table-right limit (tableOf t) t read ks below e; apart = table-apart limit (tableOf t) t read ks below e },
   λ w. faultless limit (tableOf t) t read (λ a. ⊥) _ ks (begin-walking limit (tableOf t) t read) below
-      (λ r e. absurd (true≢false (sym e ∙ none 16 r))) (w .right) (λ a never. absurd never) (w .apart),
+      (λ r e. absurd (true≢false (sym e ∙ none-taken 16 r))) (w .right) (λ a never. absurd never) (w .apart),
 )

@@ -9,8 +9,8 @@ use Rattle.teaselram.proofs.teaselram_sheet_kind.Tie as tie
 read-sheet-requires : tie.Need-read-sheet-requires
 read-sheet-requires c κs = search needs
 
-kind-no-requires : tie.Need-kind-no-requires
-kind-no-requires c κs = search needs
+asked-no-requires : tie.Need-asked-no-requires
+asked-no-requires c κs = search needs
 
 kind-refusal-requires : tie.Need-kind-refusal-requires
 kind-refusal-requires c κs = search needs
@@ -20,7 +20,7 @@ returns c = search (sheet-kind-refused, needs)
 
 -- The kind is one of eight.
 below : (c : tie.After-kinds) → c .before .before .before .before .before .before .before .args .kind < 8
-below c = sheet-kind-below _ _ _ _ (c .before .before .before .before .before .read-sheet .ensures) (c .before .before .kind-no .ensures) (c .before .if1 .left)
+below c = sheet-kind-below _ _ _ _ (c .before .before .before .before .before .read-sheet .ensures) (c .before .before .asked-no .ensures) (c .before .if1 .left)
 
 mul-asked : tie.Need-mul-asked
 mul-asked c = omega (arith, below c)
@@ -33,7 +33,7 @@ kind-at-requires c κs = search (sheet-kind-there, needs)
 
 -- Its first start stands below 65,536.
 fits : (c : tie.After-kind-at) → c .kind-at .result + 4 < 65536
-fits c = rw (c .kind-at .ensures) (first-start-below _ _ _ _ (c .before .before .before .before .before .before .before .read-sheet .ensures) (c .before .before .before .before .kind-no .ensures) (c .before .before .before .if1 .left))
+fits c = rw (c .kind-at .ensures) (first-start-below _ _ _ _ (c .before .before .before .before .before .before .before .read-sheet .ensures) (c .before .before .before .before .asked-no .ensures) (c .before .before .before .if1 .left))
 
 add-first : tie.Need-add-first
 add-first c = omega (arith, fits c)
@@ -52,7 +52,7 @@ teaselram-sheet-kind-spec =
     tie.close
     (tie.spec
     read-sheet-requires
-    kind-no-requires
+    asked-no-requires
     kind-refusal-requires
     returns
     mul-asked

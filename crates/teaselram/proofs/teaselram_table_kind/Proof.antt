@@ -9,8 +9,8 @@ use Rattle.teaselram.proofs.teaselram_table_kind.Tie as tie
 read-table-requires : tie.Need-read-table-requires
 read-table-requires c κs = search needs
 
-kind-no-requires : tie.Need-kind-no-requires
-kind-no-requires c κs = search needs
+asked-no-requires : tie.Need-asked-no-requires
+asked-no-requires c κs = search needs
 
 kind-refusal-requires : tie.Need-kind-refusal-requires
 kind-refusal-requires c κs = search needs
@@ -20,7 +20,7 @@ returns c = search (table-kind-refused, needs)
 
 -- The kind is one of eight.
 below : (c : tie.After-shapes) → c .before .before .before .before .before .before .before .args .kind < 8
-below c = table-kind-below _ _ _ _ (c .before .before .before .before .before .read-table .ensures) (c .before .before .kind-no .ensures) (c .before .if1 .left)
+below c = table-kind-below _ _ _ _ (c .before .before .before .before .before .read-table .ensures) (c .before .before .asked-no .ensures) (c .before .if1 .left)
 
 mul-shape : tie.Need-mul-shape
 mul-shape c = omega (arith, below c)
@@ -39,7 +39,7 @@ teaselram-table-kind-spec =
     tie.close
     (tie.spec
     read-table-requires
-    kind-no-requires
+    asked-no-requires
     kind-refusal-requires
     returns
     mul-shape

@@ -1,8 +1,8 @@
--- `kind_no`: the reader's number, or the test of the kind against the number of kinds.
+-- `asked_no`: the reader's number, or the test of the kind against the number of kinds.
 use Rattle.teaselram.proofs.Says.{kind-unread, kind-found, kind-missing}
 use borrow.Author.Needs.{needs}
-use Rattle.teaselram.proofs.kind_no.Statement.{statement}
-use Rattle.teaselram.proofs.kind_no.Tie as tie
+use Rattle.teaselram.proofs.asked_no.Statement.{statement}
+use Rattle.teaselram.proofs.asked_no.Tie as tie
 
 reading-no-requires : tie.Need-reading-no-requires
 reading-no-requires c κs = search needs
@@ -19,5 +19,5 @@ returns-2 c = search (kind-found, needs)
 returns-3 : tie.Need-returns-3
 returns-3 c = search (kind-missing, needs)
 
-pub kind-no-spec : {M : Type 1} → statement M
-kind-no-spec = tie.close (tie.spec reading-no-requires returns cast-if2 returns-2 returns-3)
+pub asked-no-spec : {M : Type 1} → statement M
+asked-no-spec = tie.close (tie.spec reading-no-requires returns cast-if2 returns-2 returns-3)
