@@ -1,4 +1,4 @@
--- Demand 3 in its own words: when a list of kinds goes right by a table. (The faults of 'Placing by a table' are 01's other way to say it; crates/demands proves that they agree.)
+-- Demand 3 in its own words: when a list of kinds goes right by a table. (The faults of 'Placing by a table' are 01's other way to say it; that they agree is `well-placed`, crates/walking.)
 use Prim.Native.Nat.{ℕ, _+_, _*_, _%_, _≤_, _<_}
 use mathlib.Core.Path.{_≡_}
 use mathlib.Core.Logic.{_⊎_}

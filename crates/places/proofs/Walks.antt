@@ -18,7 +18,7 @@ use Rattle.convention.specs.Bytes.{written}
 use Rattle.convention.specs.Lists.{Steps, placesFrom, recordOf, recordsOf, recordLength, records, unknownAt, listNo, placing, placingMemory}
 use Rattle.convention.proofs.Lists.{fault-turn, fault-hit, fault-end, stop-turn, stop-hit, stop-end, state-turn, state-end, records-turn, record-length, records-length, places-length}
 use Rattle.convention.proofs.Numbers.{or-zero, unless-zero}
-use Rattle.places.specs.Walks.{WalkIs, WalkLeft, WriteLeft, recordsBefore, ListNo, PlacingIs}
+use Rattle.places.specs.Walks.{WalkIs, WalkLeft, WriteLeft, recordsBefore, ListTested, PlacingIs}
 
 -- One more run written behind the first n bytes of R, which stand in front.
 pasted : (R before : List ℕ) (n : ℕ) (bs rest : List ℕ) → n ≤ length R → drop n R ≡ bs ++ rest
@@ -101,14 +101,14 @@ module _ (M : Steps) (ks : List ℕ) where
 
   -- The answer, in 01's order: 8, 12, 9, 10, or success.
   module _ (limit m : ℕ) (before : List ℕ) where
-    pub list-refused : (number : ℕ) → ListNo limit (length ks) (length before) number → (number ≡ 0 → ⊥)
+    pub list-refused : (number : ℕ) → ListTested limit (length ks) (length before) number → (number ≡ 0 → ⊥)
         → PlacingIs limit m M ks before (Placing.Refused number) before
     unfolding placing placingMemory
     list-refused zero tests some = absurd (some refl)
     list-refused (suc number) tests some = record { answers = rw (← tests .is); memory = refl }
 
     -- The first two tests passed.
-    module _ (number : ℕ) (tests : ListNo limit (length ks) (length before) number) (z : number ≡ 0) where
+    module _ (number : ℕ) (tests : ListTested limit (length ks) (length before) number) (z : number ≡ 0) where
       passed : listNo limit (length ks) (length before) ≡ 0
       passed = sym (tests .is) ∙ z
 
@@ -130,7 +130,7 @@ module _ (M : Steps) (ks : List ℕ) where
 
 -- The tests of a list's length and of its room, which is divided so that nothing overflows.
 pub list-no : (limit n room many narrow number : ℕ) → many ≡ unless (leb n limit) 8 → narrow ≡ unless (leb n (room / recordLength)) 12
-    → number ≡ orElse many narrow → ListNo limit n room number
+    → number ≡ orElse many narrow → ListTested limit n room number
 list-no limit n room many narrow number em en e =
     let is : number ≡ listNo limit n room = e ∙ rw (em, en, divided) in
     let tests : number ≡ 0 → (unless (leb n limit) 8 ≡ 0) × (unless (leb (recordLength * n) room) 12 ≡ 0) = λ z. or-zero _ _ (sym is ∙ z) in
@@ -151,7 +151,7 @@ list-no limit n room many narrow number em en e =
           lt-leb _ _ less ∙ sym (lt-leb _ _ over)
     ]
 
-pub list-fits : (limit n room : ℕ) → n ≤ limit → recordLength * n ≤ room → ListNo limit n room 0
+pub list-fits : (limit n room : ℕ) → n ≤ limit → recordLength * n ≤ room → ListTested limit n room 0
 list-fits limit n room h r = record { is = rw (le-leb _ _ h, le-leb _ _ r); short = λ _. h; roomy = λ _. r }
 
 -- A file that cannot be read: its number, and nothing is written.

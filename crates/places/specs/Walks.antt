@@ -32,7 +32,7 @@ abbrev pub recordsBefore : (M : Steps) → List ℕ → List ℕ → List ℕ
 recordsBefore M ks before = records M ks ++ drop (length (records M ks)) before
 
 -- The number of so many arguments with so much room; where it is 0 they are few enough, and have room.
-pub record ListNo (limit arguments room number : ℕ) : Type 0 where
+pub record ListTested (limit arguments room number : ℕ) : Type 0 where
   pub is : number ≡ listNo limit arguments room
   pub short : number ≡ 0 → arguments ≤ limit
   pub roomy : number ≡ 0 → recordLength * arguments ≤ room

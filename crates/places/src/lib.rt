@@ -13,7 +13,7 @@ ghost use Rattle.convention.specs.Lists.{unknownAt, recordOf};
 ghost use Rattle.convention.specs.Rules.{freeRun, markRun, placeTaken, placeP};
 ghost use Rattle.convention.specs.Numbers.{argumentLimit};
 ghost use Rattle.places.specs.Ends.{runEnd, stackEnd};
-ghost use Rattle.places.specs.Walks.{ListNo};
+ghost use Rattle.places.specs.Walks.{ListTested};
 
 // What going through a list found: the fault of the first faulty step and its position; or 0, and the final p.
 pub struct Walk {
@@ -70,7 +70,7 @@ pub fn least_offset(modulus: u8, residue: u8, p: Offset) -> Offset
 // The number of a list of so many arguments with so much room, before its kinds are looked at: 8 where there are more than
 // 400, then 12 where their records have no room.
 pub fn list_no(arguments: usize, room: usize) -> u8
-    ensures { λ r. ⌜ ListNo argumentLimit arguments room r ⌝ }
+    ensures { λ r. ⌜ ListTested argumentLimit arguments room r ⌝ }
 {
     let many = fields::unless(arguments <= 400, 8);
     let narrow = fields::unless(arguments <= room / 6, 12);

@@ -17,7 +17,7 @@ use Rattle.convention.specs.Rules.{byRules, placeByRules, rulesMemory}
 use Rattle.convention.specs.Promised.{SheetRead}
 use Rattle.convention.proofs.Lists.{unknown-le}
 use Rattle.convention.proofs.Sheets.{sheet-read, sheet-right, sheet-is, sheet-refused, sheet-wrong}
-use Rattle.places.specs.Walks.{WalkIs, recordsBefore, ListNo, PlacingIs}
+use Rattle.places.specs.Walks.{WalkIs, recordsBefore, ListTested, PlacingIs}
 use Rattle.places.proofs.Walks.{faulty, all-placed, list-fits, not-read}
 use Rattle.placing.specs.Asked.{RoomAsks}
 
@@ -30,7 +30,7 @@ walk-faulty zero stop count p nz = absurd (nz refl)
 walk-faulty (suc fault) stop count p nz = refl
 
 -- Every kind is known, and the records have room.
-pub room-asks : (sheet : Sheet) (ks out : List ℕ) (number at : ℕ) → SheetRead sheet → ListNo argumentLimit (length ks) (length out) number → number ≡ 0
+pub room-asks : (sheet : Sheet) (ks out : List ℕ) (number at : ℕ) → SheetRead sheet → ListTested argumentLimit (length ks) (length out) number → number ≡ 0
     → at ≡ unknownAt (sheet .head .kinds) ks → length ks ≤ at → RoomAsks sheet ks out
 room-asks sheet ks out number at read tests z ea h = record {
   asked = record { read = read; known = omega (arith, ea, unknown-le (sheet .head .kinds) ks); short = tests .short z };
@@ -43,7 +43,7 @@ module _ (sheet : Sheet) (ks out : List ℕ) (fault stop : ℕ) (p : Offset) (r 
   known : length ks ≤ unknownAt (sheet .head .kinds) ks
   known = omega (arith, asks .asked .known)
 
-  fits : ListNo argumentLimit (length ks) (length out) 0
+  fits : ListTested argumentLimit (length ks) (length out) 0
   fits = list-fits argumentLimit (length ks) (length out) (asks .asked .short) (asks .room)
 
   pub known-faulty : (fault ≡ 0 → ⊥) → PlacingIs argumentLimit (sheet .head .kinds) (byRules sheet) ks out r out

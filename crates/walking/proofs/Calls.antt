@@ -17,13 +17,13 @@ use Rattle.convention.specs.Walked.{byTable, placeByTable, tableMemory}
 use Rattle.convention.specs.Promised.{TableRead}
 use Rattle.convention.proofs.Lists.{unknown-le}
 use Rattle.convention.proofs.Tables.{table-read, table-right, table-is, table-refused, table-wrong}
-use Rattle.places.specs.Walks.{WalkIs, ListNo, PlacingIs}
+use Rattle.places.specs.Walks.{WalkIs, ListTested, PlacingIs}
 use Rattle.places.proofs.Walks.{not-read}
 use Rattle.walking.specs.Asked.{WalkAsks, WriteAsks}
 
 -- A list that is short enough and has no unknown kind can be walked; one without a fault, given room, can be written.
 module _ (table : Table) (t ks out : List ℕ) (h : Head) (number at : ℕ) (read : TableRead stateLimit table t)
-    (tests : ListNo argumentLimit (length ks) (length out) number) (z : number ≡ 0) (eh : h ≡ table .head) (e : at ≡ unknownAt (h .kinds) ks)
+    (tests : ListTested argumentLimit (length ks) (length out) number) (z : number ≡ 0) (eh : h ≡ table .head) (e : at ≡ unknownAt (h .kinds) ks)
     (known : length ks ≤ at) where
   pub walk-asks : WalkAsks table t ks
   walk-asks =
