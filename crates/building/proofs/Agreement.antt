@@ -19,17 +19,20 @@ use Rattle.convention.specs.declared.Placement.the-variants.{Registers, Stack, 
 use Rattle.convention.specs.Sheets.{sheetKind}
 use Rattle.convention.specs.Offsets.{leastOffset}
 use Rattle.convention.specs.Tables.{tableOf, transition}
-use Rattle.convention.specs.Lists.{faultFrom, stopFrom, stateFrom, placesFrom}
+use Rattle.convention.specs.Lists.{faultFrom, stopFrom, stateFrom, placesFrom, KindsBelow}
 use Rattle.convention.specs.Rules.{placeFault, placeTaken, placeP, rulesAfter, byRules}
 use Rattle.convention.specs.Walked.{tablePlace, tableFault, tableAfter}
-use Rattle.convention.specs.Judged.{KindsBelow}
 use Rattle.convention.specs.Explored.{Automaton, Entry, entry, number}
-use Rattle.convention.specs.Built.{allocation, allocations, builtStates, builtTable}
+use Rattle.convention.specs.Built.{allocation, allocations, made, builtStates, builtTable}
 use Rattle.convention.specs.Promised.{HeadRead, SheetKindRead, SheetRead}
 use Rattle.convention.proofs.Numbers.{or-on, unless-true}
-use Rattle.convention.proofs.Offsets.{width-pos, modulus-pos, aligned-residue, residue-aligned, needed-room}
-use Rattle.convention.proofs.Exploring.{node-number, met-some, met-start, closed}
-use Rattle.building.specs.Made.{made, byBuilt}
+use Rattle.convention.specs.Shapes.{rightCount}
+use Rattle.convention.proofs.Offsets.{width-pos, modulus-pos, aligned-residue, residue-aligned}
+use Rattle.convention.proofs.Shapes.{needed-right}
+use Rattle.convention.proofs.Numbering.{node-number, met-some, met-start}
+use Rattle.convention.proofs.Scanning.{met-scanned}
+use Rattle.convention.proofs.Exploring.{closed}
+use Rattle.building.specs.Made.{byBuilt}
 use Rattle.building.proofs.Allocations.{allocations-decide, alignment-divides, goes-placed, next-after, made-here}
 use Rattle.building.proofs.Places.{Gives, rules-give, Within, free-within, taken-within, after-within, after-length}
 use Rattle.building.proofs.Readable.{made-next, built-head, built-kind, built-transition}
@@ -37,28 +40,28 @@ use Rattle.building.proofs.InStep.{InStep, step-fault, step-stop, step-
 
 -- One step by the transition made of a place that the rules give a kind in state s.
 module _ (h : Head) (kind : SheetKind) (s : ByRules) (H : HeadRead h) (K : SheetKindRead h kind) where
-  aligned : 0 < kind .alignment
-  aligned = modulus-pos (kind .alignment) (K .shape .alignment)
+  aligned : 0 < kind .shape .alignment
+  aligned = modulus-pos (kind .shape .alignment) (K .shape .alignment)
 
   -- The table gives that place.
   made-place : (place : Placement) (next : ℕ) → Gives h kind s place → tablePlace h (made (h .modulus) place next) (s .p .0) ≡ place
   made-place (Registers first count) next g = refl
   made-place (Stack offset count) next g =
-      let stored = aligned-residue (kind .alignment) (h .modulus) (s .p .0) aligned (modulus-pos (h .modulus) (H .modulus)) (alignment-divides H K) in
+      let stored = aligned-residue (kind .shape .alignment) (h .modulus) (s .p .0) aligned (modulus-pos (h .modulus) (H .modulus)) (alignment-divides H K) in
       let same : leastOffset (h .modulus) (offset .0 % h .modulus) (s .p .0) ≡ offset .0 = rw (g .0) stored in
       rw same
   made-place Nowhere next g = refl
 
   -- It has the rules' fault, and no other, where it has given no register that is available in s.
   made-fault : (place : Placement) (next : ℕ) (given : List Bool) → Gives h kind s place → Within given (s .unavailable)
-      → tableFault h (record { size = kind .size; alignment = kind .alignment }) (made (h .modulus) place next) given ≡ placeFault place
+      → tableFault h (kind .shape) (made (h .modulus) place next) given ≡ placeFault place
   unfolding tableFault
   made-fault (Registers first count) next given g within =
-      let room : kind .size ≤ count * h .width = rw (g .2) (needed-room (h .width) (kind .size) (width-pos (h .width) (H .width))) in
-      or-on _ _ (unless-true _ 2 (free-within given (s .unavailable) (first .0) count within (g .0))) ∙ unless-true _ 3 (le-leb _ _ room)
+      let room : rightCount (h .width) count (kind .shape) ≡ true = rw (g .2) (needed-right (h .width) (kind .shape) (width-pos (h .width) (H .width))) in
+      or-on _ _ (unless-true _ 2 (free-within given (s .unavailable) (first .0) count within (g .0))) ∙ unless-true _ 3 room
   made-fault (Stack offset count) next given g within =
-      let stored = residue-aligned (kind .alignment) (h .modulus) (s .p .0) aligned (alignment-divides H K) in
-      let residue : offset .0 % h .modulus % kind .alignment ≡ 0 = rw (g .0) stored in
+      let stored = residue-aligned (kind .shape .alignment) (h .modulus) (s .p .0) aligned (alignment-divides H K) in
+      let residue : offset .0 % h .modulus % kind .shape .alignment ≡ 0 = rw (g .0) stored in
       or-on _ _ (unless-true _ 3 (eq-eqb _ _ (g .1))) ∙ unless-true _ 4 (eq-eqb _ 0 residue)
   made-fault Nowhere next given g within = refl
 
@@ -129,7 +132,7 @@ module _ (limit : ℕ) (sheet : Sheet) (R : SheetRead sheet) (whole : length (bu
     next-inside : byRules sheet .fault s k ≡ 0 → next < length l
     next-inside f =
         let goes : X .goes (entry X l (u .state) .node) k ≡ true = rw (t .node) (goes-placed sheet R s k b .1 f) in
-        let met = closed X (allocations-decide sheet) limit (u .state) k (omega (arith, t .inside)) (t .inside) b goes in
+        let met = closed X (allocations-decide sheet) l limit (met-scanned X (allocations-decide sheet) limit) (u .state) k (omega (arith, t .inside)) (t .inside) b goes in
         rw (t .node, next-after sheet R s k b) at met
 
     after-together : byRules sheet .fault s k ≡ 0 → Together sheet l (byRules sheet .after s k) (byBuilt limit sheet .after u k)

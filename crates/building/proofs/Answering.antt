@@ -17,8 +17,8 @@ use Rattle.convention.specs.declared.Building.the-variants.{Built}
 use Rattle.convention.specs.Numbers.{stateLimit, orElse, unless, reading}
 use Rattle.convention.specs.Bytes.{written}
 use Rattle.convention.specs.Sheets.{readSheet}
-use Rattle.convention.specs.Tables.{rowAt}
-use Rattle.convention.specs.Built.{builtStates, builtTable, buildNo, buildAnswer, build, buildWrites, buildMemory}
+use Rattle.convention.specs.Layout.{rowAt}
+use Rattle.convention.specs.Built.{builtVersion, builtStates, builtTable, buildNo, buildAnswer, build, buildWrites, buildMemory}
 use Rattle.convention.specs.Promised.{SheetRead}
 use Rattle.convention.proofs.Runs.{either}
 use Rattle.convention.proofs.Numbers.{or-zero, or-here, unless-zero}
@@ -46,7 +46,7 @@ answer-built number n len z = rw z
 
 -- A sheet that was read, whose states were explored: the number is that of 'Building: 11, 12'.
 module _ (sheet : Sheet) (states : List ℕ) (met : Met) (before : List ℕ) (len number : ℕ) (answer : Building)
-    (holds : Holds sheet states met (builtStates stateLimit sheet)) (el : len ≡ rowAt (sheet .head .kinds) (met .count))
+    (holds : Holds sheet states met (builtStates stateLimit sheet)) (v : ℕ) (ev : v ≡ builtVersion sheet) (el : len ≡ rowAt v (sheet .head) (met .count))
     (en : number ≡ orElse (unless (not (met .over)) 11) (unless (leb len (length before)) 12)) (ea : answer ≡ buildAnswer number (met .count) len) where
   -- Where there are not too many states, the length is the table's.
   module _ (o : met .over ≡ false) where
@@ -54,7 +54,7 @@ module _ (sheet : Sheet) (states : List ℕ) (met : Met) (before : List ℕ) (le
     few = omega (arith, holds .room .few, holds .all o .many)
 
     whole : len ≡ length (builtTable stateLimit sheet)
-    whole = el ∙ rw (holds .all o .many) (sym (built-length sheet (builtStates stateLimit sheet)))
+    whole = el ∙ rw (ev, holds .all o .many) (sym (built-length sheet (builtStates stateLimit sheet)))
 
   table-number : number ≡ tableNumber sheet (length before)
   table-number = elim (either (met .over)) [
@@ -85,7 +85,7 @@ module _ (sheet : Sheet) (states : List ℕ) (met : Met) (before : List ℕ) (le
     pub table-asks : SheetRead sheet → TableAsks sheet states (met .count) before
     table-asks read = record {
       kept = record { read = read; room = holds .room; keeps = holds .all all-met };
-      there = rw (← el) (leb-true _ _ (unless-zero _ 12 (omega arith) (passed .1)));
+      there = rw (← ev, ← el) (leb-true _ _ (unless-zero _ 12 (omega arith) (passed .1)));
     }
 
     pub table-built : (after : List ℕ) → after ≡ written before 0 (builtTable stateLimit sheet) → BuildingIs sheet before answer after

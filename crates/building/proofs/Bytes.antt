@@ -1,18 +1,18 @@
 -- The bytes that building wrote: where it answers `Built n len`, the sheet was read, its states were all met, and the first len bytes of the memory are its table.
-use Prim.Native.Nat.{ℕ, zero, suc, _*_, _≤_}
+use Prim.Native.Nat.{ℕ, zero, suc, _≤_}
 use mathlib.Core.Path.{_≡_, refl, sym}
 use mathlib.Core.List.{List, _++_}
-use native.Mathlib.Nat.{mul-le-mul}
 use native.Mathlib.Omega.{arith}
 use lib.ListN.{length, take, drop, length-append}
 use lib.Seq.{take-at, drop-at}
 use borrow.Author.Tests.{leb-true}
 use Rattle.convention.specs.declared.Building.the-variants.{Built}
-use Rattle.convention.specs.Numbers.{stateLimit}
+use Rattle.convention.specs.Layout.{LengthSaid}
 use Rattle.convention.specs.Sheets.{sheetNo, sheetOf}
 use Rattle.convention.specs.Tables.{tableNo}
-use Rattle.convention.specs.Built.{builtStates, builtTable, statesNumber, buildNo, buildAnswer, build, buildMemory}
+use Rattle.convention.specs.Built.{builtVersion, builtMost, builtStates, builtTable, statesNumber, buildNo, buildAnswer, build, buildMemory}
 use Rattle.convention.proofs.Numbers.{or-zero, unless-zero}
+use Rattle.convention.proofs.Positions.{table-most}
 use Rattle.convention.proofs.Sheets.{sheet-read}
 use Rattle.building.proofs.Readable.{built-length, readable}
 
@@ -20,12 +20,12 @@ use Rattle.building.proofs.Readable.{built-length, readable}
 pub states-fit : (limit : ℕ) (s : List ℕ) → statesNumber limit (sheetOf s) ≡ 0 → length (builtStates limit (sheetOf s)) ≤ limit
 states-fit limit s e = leb-true _ limit (unless-zero _ 11 (omega arith) e)
 
--- A table of at most 8 kinds and 200 states has at most 6,424 bytes.
-pub table-most : (s : List ℕ) → sheetNo s ≡ 0 → statesNumber stateLimit (sheetOf s) ≡ 0 → length (builtTable stateLimit (sheetOf s)) ≤ 6424
-table-most s read e =
-    let head = sheet-read s read .head in
-    let row : 4 * sheetOf s .head .kinds ≤ 32 = omega (arith, head .kinds) in
-    omega (arith, built-length (sheetOf s) (builtStates stateLimit (sheetOf s)), mul-le-mul row (states-fit stateLimit s e), head .kinds)
+-- A built table is no longer than the longest.
+pub built-most : (limit : ℕ) (s : List ℕ) → sheetNo s ≡ 0 → statesNumber limit (sheetOf s) ≡ 0 → length (builtTable limit (sheetOf s)) ≤ builtMost limit
+unfolding builtVersion
+built-most limit s read e =
+    rw (built-length (sheetOf s) (builtStates limit (sheetOf s)))
+    (table-most (builtVersion (sheetOf s)) (sheetOf s .head) _ limit (sheet-read s read .head .kinds) (states-fit limit s e))
 
 module _ (limit : ℕ) (s : List ℕ) (room n len : ℕ) (built : build limit s room ≡ Built n len) where
   abbrev table : List ℕ
@@ -49,8 +49,8 @@ module _ (limit : ℕ) (s : List ℕ) (room n len : ℕ) (built : build limit s 
       (tests .0, states-fit limit s (or-zero _ _ (tests .1) .0))
 
   -- The table can be read.
-  pub built-readable : limit ≤ 2000 → tableNo limit (builtTable limit (sheetOf s)) ≡ 0
-  built-readable small = readable limit (sheetOf s) (sheet-read s (built-sheet .0)) (built-sheet .1) small
+  pub built-readable : LengthSaid limit → tableNo limit (builtTable limit (sheetOf s)) ≡ 0
+  built-readable said = readable limit (sheetOf s) (sheet-read s (built-sheet .0)) (built-sheet .1) said
 
 -- Its bytes are the first len of the memory.
 module _ (limit : ℕ) (s out : List ℕ) (n len : ℕ) (built : build limit s (length out) ≡ Built n len) where

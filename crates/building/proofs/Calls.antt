@@ -3,6 +3,7 @@ use Prim.Native.Nat.{ℕ, _≤_}
 use mathlib.Core.Path.{_≡_, sym, ap, ap₂, _∙_}
 use mathlib.Core.List.{List}
 use lib.ListN.{length}
+use Rattle.convention.specs.Layout.{LengthSaid}
 use Rattle.convention.specs.declared.Head.{Head}
 use Rattle.convention.specs.declared.Sheet.{Sheet}
 use Rattle.convention.specs.Sheets.{sheetNo, sheetOf}
@@ -19,7 +20,7 @@ use Rattle.building.proofs.Readable.{built-head, readable}
 use Rattle.building.proofs.Agreement.{begin-together, in-step}
 
 -- A sheet's bytes that can be read and built, of at most `states` states; a call places at most `arguments` arguments.
-module _ (states arguments : ℕ) (s : List ℕ) (e : sheetNo s ≡ 0) (whole : length (builtStates states (sheetOf s)) ≤ states) (small : states ≤ 2000) where
+module _ (states arguments : ℕ) (s : List ℕ) (e : sheetNo s ≡ 0) (whole : length (builtStates states (sheetOf s)) ≤ states) (said : LengthSaid states) where
   abbrev sheet : Sheet
   sheet = sheetOf s
 
@@ -28,7 +29,7 @@ module _ (states arguments : ℕ) (s : List ℕ) (e : sheetNo s ≡ 0) (whole : 
 
   -- Reading gives one number and one count of kinds in both.
   same-number : tableNo states (builtTable states sheet) ≡ sheetNo s
-  same-number = readable states sheet read whole small ∙ sym e
+  same-number = readable states sheet read whole said ∙ sym e
 
   same-kinds : tableOf (builtTable states sheet) .head .kinds ≡ sheet .head .kinds
   same-kinds = ap (λ (h : Head). h .kinds) (built-head sheet (builtStates states sheet))

@@ -1,8 +1,7 @@
 -- A built table has no fault but 1, since the rules have none; and none at all where each kind may use the stack, which always has a place.
 use Prim.Native.Nat.{ℕ, _≤_, _<_}
-use mathlib.Core.Path.{_≡_}
-use mathlib.Core.Logic.{inl, inr}
-use mathlib.Core.Bool.{true}
+use mathlib.Core.Path.{_≡_, sym, _∙_}
+use mathlib.Core.Bool.{true, true≢false}
 use mathlib.Core.List.{List}
 use native.Mathlib.Omega.{arith}
 use lib.ListN.{length}
@@ -12,12 +11,13 @@ use Rattle.convention.specs.declared.ByRules.{ByRules}
 use Rattle.convention.specs.declared.Placement.{Placement}
 use Rattle.convention.specs.declared.Placement.the-variants.{Registers, Stack, Nowhere}
 use Rattle.convention.specs.Sheets.{mayUseStack, sheetKind}
-use Rattle.convention.specs.Rules.{fits, placeFault, rulesPlace, byRules}
-use Rattle.convention.specs.Judged.{KindsBelow, listFault, FaultyList, CleanTable}
+use Rattle.convention.specs.Lists.{KindsBelow}
+use Rattle.convention.specs.Rules.{placeFault, rulesPlace, byRules}
+use Rattle.convention.specs.Judged.{listFault, FaultyList, CleanTable}
 use Rattle.convention.specs.Built.{builtStates, builtTable}
 use Rattle.convention.specs.Promised.{SheetRead}
 use Rattle.convention.proofs.Lists.{faults-keep}
-use Rattle.convention.proofs.Runs.{either}
+use Rattle.convention.proofs.Rules.{place-cases}
 use Rattle.building.proofs.Readable.{built-head}
 use Rattle.building.proofs.Agreement.{agree-fault}
 
@@ -28,8 +28,8 @@ place-most (Stack offset count) = omega arith
 place-most Nowhere = omega arith
 
 stack-most : (w : ℕ) (kind : SheetKind) (s : ByRules) → mayUseStack kind ≡ true → placeFault (rulesPlace w kind s) ≤ 0
-unfolding rulesPlace
-stack-most w kind s u = elim (either (fits w kind (s .unavailable))) [ inl t ↦ rw t (omega arith) | inr t ↦ rw (t, u) (omega arith) ]
+stack-most w kind s u =
+    place-cases w kind (s .unavailable) (λ at. placeFault (at (s .p .0)) ≤ 0) (λ _. omega arith) (λ _. omega arith) (λ f. absurd (true≢false (sym u ∙ f)))
 
 module _ (limit : ℕ) (sheet : Sheet) (R : SheetRead sheet) (whole : length (builtStates limit sheet) ≤ limit) where
   -- Every list's fault is 0 or 1.

@@ -11,9 +11,8 @@ use lib.ListN.{length, take}
 use borrow.Author.Tests.{ltb-false}
 use Rattle.convention.specs.declared.Placing.{Placing}
 use Rattle.convention.specs.Numbers.{orElse, unless}
-use Rattle.convention.specs.Lists.{Steps, faultFrom, stopFrom, stateFrom, placesFrom, recordLength, unknownAt}
+use Rattle.convention.specs.Lists.{Steps, faultFrom, stopFrom, stateFrom, placesFrom, recordLength, unknownAt, KindsBelow}
 use Rattle.convention.specs.Lists.{walkAnswer, placingAnswer, placing, placingMemory}
-use Rattle.convention.specs.Judged.{KindsBelow}
 use Rattle.convention.proofs.Numbers.{or-zero, or-here}
 use Rattle.convention.proofs.Lists.{unknown-le, known-below}
 use Rattle.convention.proofs.Runs.{either}

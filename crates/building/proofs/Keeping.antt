@@ -1,5 +1,5 @@
 -- Laws of the memory of the states met, on plain values: the state that is had back, the one that is found and the one that is kept are those of the entries.
-use Prim.Native.Nat.{ℕ, zero, suc, _+_, _≤_, _<_}
+use Prim.Native.Nat.{ℕ, _+_, _≤_, _<_}
 use mathlib.Core.Path.{_≡_, refl, sym, ap, _∙_}
 use mathlib.Core.Logic.{inl, inr}
 use mathlib.Core.Bool.{true, false, true≢false}
@@ -9,33 +9,20 @@ use native.Mathlib.Numerals.{add-one}
 use native.Mathlib.Omega.{arith}
 use lib.ListN.{length, getD, set, length-append, length-set, List·getD-append}
 use lib.Seq.{getD-append-seam, getD-set-same, getD-set-other}
-use borrow.Author.Tests.{lt-ltb, le-ltb}
 use borrow.Author.Count.{below-more}
 use Rattle.convention.specs.declared.Sheet.{Sheet}
 use Rattle.convention.specs.declared.Allocation.{Allocation}
 use Rattle.convention.specs.Numbers.{stateLimit}
-use Rattle.convention.specs.Explored.{Automaton, Entry, firstEntry, entry, number, meet}
+use Rattle.convention.specs.Explored.{Entry, firstEntry, entry, number, meet}
 use Rattle.convention.specs.Built.{sameAllocation, allocations}
 use Rattle.convention.proofs.Runs.{either}
-use Rattle.convention.proofs.Exploring.{meet-grows}
+use Rattle.convention.proofs.Numbering.{number-first, meet-known, meet-new, still-more}
 use Rattle.building.specs.declared.memory.Met.{Met}
 use Rattle.building.specs.Keys.{keyOf, stateOf, KeyIs, Passed}
 use Rattle.building.specs.Holding.{Room, Keeps, Holds, StateAt, Finds, Meets}
 use Rattle.building.proofs.Allocations.{allocations-decide}
 
--- The place of the first entry that is the same is the number.
-number-first : (X : Automaton) (l : List (Entry X)) (s : X .Node) (r : ℕ) → r ≤ length l
-    → ((j : ℕ) → j < r → X .same (entry X l j .node) s ≡ false) → (r < length l → X .same (entry X l r .node) s ≡ true) → r ≡ number X l s
-unfolding number
-number-first X [] s r h others there = omega arith
-number-first X (e ∷ l) s zero h others there = rw (there (omega arith), number)
-number-first X (e ∷ l) s (suc r) h others there = rw (others 0 (omega arith), number)
-    (ap suc (number-first X l s r (omega arith) (λ j o. others (suc j) (omega arith)) (λ o. there (omega arith))))
-
 module _ (sheet : Sheet) where
-  abbrev X : Automaton
-  X = allocations sheet
-
   -- Two states are the same exactly where their keys are.
   module _ (x y : ℕ) (a b : Allocation) (ka : KeyIs x a) (kb : KeyIs y b) where
     same-key : x ≡ y → sameAllocation a b ≡ true
@@ -48,19 +35,6 @@ module _ (sheet : Sheet) where
       | inl t ↦ absurd (other (ka .number ∙ ap keyOf (allocations-decide sheet .same-eq a b t) ∙ sym (kb .number)))
       | inr f ↦ f
     ]
-
-  -- A node that was met is not appended; a new one is.
-  meet-known : (l : List (Entry X)) (e : Entry X) → number X l (e .node) < length l → meet X l e ≡ l
-  unfolding meet
-  meet-known l e h = rw (lt-ltb _ _ h, meet)
-
-  meet-new : (l : List (Entry X)) (e : Entry X) → length l ≤ number X l (e .node) → meet X l e ≡ l ++ e ∷ []
-  unfolding meet
-  meet-new l e h = rw (le-ltb _ _ h, meet)
-
-  -- More than have room stay more.
-  still-more : (l : List (Entry X)) (e : Entry X) → stateLimit < length l → stateLimit < length (meet X l e)
-  still-more l e h = omega (arith, meet-grows X l e .longer)
 
 -- Nothing was met yet.
 pub nothing-kept : (sheet : Sheet) (states : List ℕ) → length states ≡ stateLimit → Holds sheet states (record { count = 0; over = false }) []
@@ -110,7 +84,7 @@ module _ (states : List ℕ) (met : Met) (a : Allocation) (at : ℕ) (room : Roo
     -- It is new: it is appended.
     module _ (h : met .count ≤ at) where
       appended : meet (allocations sheet) l e ≡ l ++ e ∷ []
-      appended = meet-new sheet l e (rw (← found-at) (omega (arith, keeps .many)))
+      appended = meet-new (allocations sheet) l e (rw (← found-at) (omega (arith, keeps .many)))
 
       one-more : length (meet (allocations sheet) l e) ≡ length l + 1
       one-more = rw appended (length-append l (e ∷ []))
@@ -120,8 +94,8 @@ module _ (states : List ℕ) (met : Met) (a : Allocation) (at : ℕ) (room : Roo
   meets-known h = record {
     meets = λ sheet l e q holds.
         let known : met .over ≡ false → meet (allocations sheet) l e ≡ l =
-        λ o. let keeps = holds .all o in meet-known sheet l e (rw (← found-at sheet l e q keeps) (omega (arith, keeps .many))) in
-        record { room = room; all = λ o. rw (known o) (holds .all o); more = λ o. still-more sheet l e (holds .more o) };
+        λ o. let keeps = holds .all o in meet-known (allocations sheet) l e (rw (← found-at sheet l e q keeps) (omega (arith, keeps .many))) in
+        record { room = room; all = λ o. rw (known o) (holds .all o); more = λ o. still-more (allocations sheet) stateLimit l e (holds .more o) };
   }
 
   -- There is no room for it.
@@ -131,7 +105,7 @@ module _ (states : List ℕ) (met : Met) (a : Allocation) (at : ℕ) (room : Roo
       room = record { few = omega arith; long = room .long };
       all = λ o. absurd (true≢false o);
       more = λ _. elim (either (met .over)) [
-        | inl o ↦ still-more sheet l e (holds .more o)
+        | inl o ↦ still-more (allocations sheet) stateLimit l e (holds .more o)
         | inr o ↦ let keeps = holds .all o in omega (arith, one-more sheet l e q keeps h, keeps .many, finds .within)
       ];
     };
@@ -147,7 +121,7 @@ module _ (states : List ℕ) (met : Met) (a : Allocation) (at : ℕ) (room : Roo
         many = rw (one-more sheet l e q keeps h) (omega (arith, finds .within, keeps .many));
         keys = rw (appended sheet l e q keeps h) (stored sheet l e q keeps);
       };
-      more = λ o. still-more sheet l e (holds .more o);
+      more = λ o. still-more (allocations sheet) stateLimit l e (holds .more o);
     };
   }
     where

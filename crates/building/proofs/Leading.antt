@@ -1,12 +1,10 @@
 -- The rules' step from an allocation state, on plain values.
 use Prim.Native.Nat.{ℕ, _%_, _<_}
 use mathlib.Core.Path.{_≡_}
-use mathlib.Core.Bool.{Bool}
 use native.Mathlib.Nat.{mod-lt}
 use native.Mathlib.Omega.{arith}
 use mir.Syntax.{w8}
 use mir.Val.{Fits}
-use lib.Dec.{eqb}
 use Rattle.convention.specs.declared.Head.{Head}
 use Rattle.convention.specs.declared.SheetKind.{SheetKind}
 use Rattle.convention.specs.declared.Sheet.{Sheet}
@@ -14,7 +12,6 @@ use Rattle.convention.specs.declared.Placement.{Placement}
 use Rattle.convention.specs.declared.Allocation.{Allocation}
 use Rattle.convention.specs.declared.ByRules.{ByRules}
 use Rattle.convention.specs.Sheets.{sheetKind}
-use Rattle.convention.specs.Rules.{placeFault}
 use Rattle.convention.specs.Built.{allocation, fromAllocation}
 use Rattle.convention.specs.Promised.{HeadRead, SheetRead}
 use Rattle.convention.proofs.Offsets.{modulus-pos}
@@ -24,10 +21,6 @@ use Rattle.building.specs.Holding.{LeadAsks, LeadIs}
 -- A remainder by a byte is a byte.
 pub residue-fits : (x m : ℕ) → 0 < m → Fits w8 m → Fits w8 (x % m)
 residue-fits x m h f = record { fits = omega (arith, mod-lt x h, f .fits) }
-
--- Whether there is a place is what it is of the case that the place is known to be.
-pub known-place : (place known : Placement) (b : Bool) → place ≡ known → b ≡ eqb (placeFault known) 0 → b ≡ eqb (placeFault place) 0
-known-place place known b e h = rw e h
 
 -- A modulus is not 0.
 pub modulus-some : (h : Head) → HeadRead h → 0 < h .modulus

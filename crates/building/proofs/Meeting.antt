@@ -2,13 +2,13 @@
 use Prim.Native.Nat.{ℕ, _+_, _-_, _≤_, _<_}
 use mathlib.Core.Path.{_≡_, refl, sym, _∙_}
 use mathlib.Core.Logic.{inl, inr}
-use mathlib.Core.Bool.{Bool, true, false, true≢false}
+use mathlib.Core.Bool.{true, false, true≢false}
 use mathlib.Core.List.{List, []}
 use native.Mathlib.Numerals.{add-one}
 use native.Mathlib.Omega.{arith}
 use lib.Dec.{eqb}
 use lib.ListN.{length}
-use borrow.Author.Tests.{lt-ltb}
+use borrow.Author.Tests.{lt-ltb, eq-eqb, ne-eqb}
 use Rattle.convention.specs.declared.Head.{Head}
 use Rattle.convention.specs.declared.SheetKind.{SheetKind}
 use Rattle.convention.specs.declared.Sheet.{Sheet}
@@ -20,7 +20,7 @@ use Rattle.convention.specs.Rules.{placeFault}
 use Rattle.convention.specs.Explored.{firstEntry, number, meet, metFrom, through, met as metBefore}
 use Rattle.convention.specs.Built.{allocations, builtStates}
 use Rattle.convention.proofs.Runs.{either}
-use Rattle.convention.proofs.Exploring.{met-grows, whole}
+use Rattle.convention.proofs.Numbering.{met-grows, whole}
 use Rattle.building.specs.declared.memory.Met.{Met}
 use Rattle.building.specs.Reached.{firstAllocation}
 use Rattle.building.specs.Holding.{Holds, StateAt, Meets, LeadIs, Passes, VisitAsks, Visiting, ExploreAsks, Exploring}
@@ -29,25 +29,25 @@ use Rattle.building.proofs.Keeping.{nothing-kept}
 
 -- One kind gone through at a state: it leads on, and what it leads to is met; or it leads nowhere.
 module _ (h : Head) (kind : SheetKind) (a : Allocation) (place : Placement) (next : Allocation) (lead : LeadIs h kind a place next)
-    (placed : Bool) (e : placed ≡ eqb (placeFault place) 0) (states : List ℕ) (met : Met) where
+    (fault : ℕ) (e : fault ≡ placeFault place) (states : List ℕ) (met : Met) where
   -- Of kind k of a sheet.
   module _ (sheet : Sheet) (k : ℕ) (eh : h ≡ sheet .head) (ek : kind ≡ sheetKind sheet k) where
     lead-at : LeadIs (sheet .head) (sheetKind sheet k) a place next
     lead-at = lead-of sheet k h kind a place next eh ek lead
 
-    goes : placed ≡ allocations sheet .goes a k
-    goes = rw (← lead-at .placed) e
+    goes : eqb fault 0 ≡ allocations sheet .goes a k
+    goes = rw (← lead-at .placed, e)
 
-  pub passes-on : (r : Met) (after : List ℕ) → placed ≡ true → Meets states met next r after → Passes h kind a states met r after
+  pub passes-on : (r : Met) (after : List ℕ) → fault ≡ 0 → Meets states met next r after → Passes h kind a states met r after
   unfolding metFrom
-  passes-on r after t meets = record {
+  passes-on r after z meets = record {
     passes = λ sheet k eh ek l i holds.
-        rw (add-one, metFrom, ← goes sheet k eh ek, t) (meets .meets sheet _ _ (sym (lead-at sheet k eh ek .behind)) holds);
+        rw (add-one, metFrom, ← goes sheet k eh ek, eq-eqb _ 0 z) (meets .meets sheet _ _ (sym (lead-at sheet k eh ek .behind)) holds);
   }
 
-  pub passes-nowhere : placed ≡ false → Passes h kind a states met met states
+  pub passes-nowhere : (fault ≡ 0 → ⊥) → Passes h kind a states met met states
   unfolding metFrom
-  passes-nowhere f = record { passes = λ sheet k eh ek l i holds. rw (add-one, metFrom, ← goes sheet k eh ek, f) holds }
+  passes-nowhere nz = record { passes = λ sheet k eh ek l i holds. rw (add-one, metFrom, ← goes sheet k eh ek, ne-eqb _ 0 nz) holds }
 
 -- State i gone through, before kind k of it.
 module _ (sheet : Sheet) (i k : ℕ) (a : Allocation) (states : List ℕ) (met : Met) where

@@ -9,16 +9,17 @@ use native.Mathlib.Decide.{decLe, decLt}
 use native.Mathlib.Omega.{arith}
 use lib.ListN.{length, getD, length-take}
 use lib.Seq.{getD-take}
-use borrow.Author.Tests.{ltb-true}
 use Rattle.convention.specs.declared.Head.{Head}
 use Rattle.convention.specs.declared.SheetKind.{SheetKind}
 use Rattle.convention.specs.declared.ByRules.{ByRules}
 use Rattle.convention.specs.declared.Placement.{Placement}
 use Rattle.convention.specs.declared.Placement.the-variants.{Registers, Stack, Nowhere}
-use Rattle.convention.specs.Sheets.{mayUseStack, isClosing}
-use Rattle.convention.specs.Rules.{freeRun, markRun, startsOf, needed, leftOf, fits, startTaken, stackBytes, stackOffset}
+use Rattle.convention.specs.Sheets.{isClosing}
+use Rattle.convention.specs.Rules.{freeRun, markRun, startsOf, needed, leftOf, startTaken, stackOffset}
+use Rattle.convention.specs.Shapes.{stackBytes}
 use Rattle.convention.specs.Rules.{rulesPlace, placeTaken, rulesAfter}
 use Rattle.convention.specs.Promised.{SheetKindRead}
+use Rattle.convention.proofs.Rules.{place-cases}
 use Rattle.convention.proofs.Runs.{either, free-each, free-some, mark-in, mark-out}
 use Rattle.places.proofs.Apart.{mark-stays, place-length}
 use Rattle.placing.proofs.Search.{left-free}
@@ -35,16 +36,14 @@ taken-fits h kind taken r l =
 abbrev pub Gives : Head → SheetKind → ByRules → Placement → Type 0
 Gives h kind s (Registers first count) =
     (freeRun (s .unavailable) (first .0) count ≡ true) × (first .0 + count ≤ h .registers) × (count ≡ needed (h .width) kind)
-Gives h kind s (Stack offset count) = (offset .0 ≡ stackOffset kind (s .p .0)) × (count ≡ stackBytes (kind .size))
+Gives h kind s (Stack offset count) = (offset .0 ≡ stackOffset kind (s .p .0)) × (count ≡ stackBytes (kind .shape))
 Gives h kind s Nowhere = Unit {0}
 
 -- The rules give such a place.
 pub rules-give : (h : Head) (kind : SheetKind) (s : ByRules) → SheetKindRead h kind → Gives h kind s (rulesPlace (h .width) kind s)
-unfolding rulesPlace
-rules-give h kind s r = elim (either (fits (h .width) kind (s .unavailable))) [
-  | inl t ↦ let l = ltb-true _ _ t in rw t (left-free _ _ _ l, taken-fits h kind (s .unavailable) r l, refl)
-  | inr t ↦ elim (either (mayUseStack kind)) [ inl u ↦ rw (t, u) (refl, refl) | inr u ↦ rw (t, u) tt ]
-]
+rules-give h kind s r =
+    place-cases (h .width) kind (s .unavailable) (λ at. Gives h kind s (at (s .p .0))) (λ l. (left-free _ _ _ l, taken-fits h kind (s .unavailable) r l, refl))
+    (λ _. (refl, refl)) (λ _. tt)
 
 -- The registers of the first set are all in the second.
 abbrev pub Within : List Bool → List Bool → Type 0

@@ -8,14 +8,13 @@ use lib.ListN.{length}
 use Rattle.convention.specs.declared.Sheet.{Sheet}
 use Rattle.convention.specs.declared.Allocation.{Allocation}
 use Rattle.convention.specs.declared.ByRules.{ByRules}
-use Rattle.convention.specs.Lists.{faultFrom, stateFrom}
+use Rattle.convention.specs.Lists.{faultFrom, stateFrom, KindsBelow}
 use Rattle.convention.specs.Rules.{byRules}
-use Rattle.convention.specs.Judged.{KindsBelow}
 use Rattle.convention.specs.Explored.{Automaton, Leads}
 use Rattle.convention.specs.Built.{allocation, allocations, builtStates}
 use Rattle.convention.specs.Promised.{SheetRead}
 use Rattle.convention.proofs.Numbers.{or-zero, or-on}
-use Rattle.convention.proofs.Exploring.{more-than}
+use Rattle.convention.proofs.Reaching.{more-than}
 use Rattle.building.specs.Reached.{Reaches, ReachMore}
 use Rattle.building.proofs.Allocations.{allocations-decide, goes-placed, next-after}
 

@@ -1,87 +1,87 @@
--- Laws of writing the table: stores one behind the other, blocks one behind the other, and the parts put together.
-use Prim.Native.Nat.{ℕ, _+_, _-_, _*_, _/_, _%_, _≤_, _<_, _^_, zero-le}
-use mathlib.Core.Path.{_≡_, refl, sym, ap, _∙_}
-use mathlib.Core.List.{List, [], _∷_, _++_}
-use native.Mathlib.Numerals.{add-one, add-two, add-three}
-use native.Mathlib.Nat.{mul-le-mul, mul-le-mul-left}
+-- Laws of writing the table: stores one after the other, blocks one after the other, and the parts put together.
+use Prim.Native.Nat.{ℕ, _+_, _-_, _*_, _/_, _%_, _≤_, _<_, zero-le}
+use mathlib.Core.Path.{_≡_, refl, sym, _∙_}
+use mathlib.Core.List.{List, [], _∷_, _++_, append-assoc}
+use native.Mathlib.Numerals.{add-one, add-two}
+use native.Mathlib.Nat.{add-zero}
 use native.Mathlib.Omega.{arith}
-use mir.Syntax.{w8, w64}
-use mir.Val.{Fits}
 use lib.ListN.{length, set, length-append, length-set}
-use lib.Seq.{append-snoc}
 use Rattle.convention.specs.declared.Head.{Head}
+use Rattle.convention.specs.declared.Shape.{Shape}
 use Rattle.convention.specs.declared.SheetKind.{SheetKind}
 use Rattle.convention.specs.declared.Sheet.{Sheet}
 use Rattle.convention.specs.declared.Placement.{Placement}
 use Rattle.convention.specs.declared.Placement.the-variants.{Registers, Stack, Nowhere}
+use Rattle.convention.specs.declared.Transition.{Transition}
 use Rattle.convention.specs.declared.Allocation.{Allocation}
 use Rattle.convention.specs.Bytes.{written, blocks}
 use Rattle.convention.specs.Numbers.{stateLimit}
-use Rattle.convention.specs.Fields.{kindsAt}
+use Rattle.convention.specs.Layout.{lengthBytes, kindsAt, sizeAt, alignmentAt, shapeLength, tableKindAt, stateLength, statesAt, rowsAt, formAt, aAt, bAt, nextAt}
+use Rattle.convention.specs.Layout.{transitionLength, rowLength, rowAt, transitionAt, tableLength}
+use Rattle.convention.specs.Fields.{shapeBytes, stateBytes}
 use Rattle.convention.specs.Sheets.{sheetKind}
-use Rattle.convention.specs.Tables.{tableKindLength, statesAt, transitionLength, rowsAt, rowLength, rowAt}
+use Rattle.convention.specs.Tables.{transitionBytes}
 use Rattle.convention.specs.Explored.{Entry}
-use Rattle.convention.specs.Built.{allocations, transitionBytes, builtTransition, builtRow, builtKind, builtBody, tableOfStates, builtStates, builtTable}
-use Rattle.convention.proofs.Bytes.{length-written, written-nothing, written-sets, written-one, written-more, length-blocks, written-block}
-use Rattle.building.specs.Holding.{StateAt, Finds, LeadIs}
-use Rattle.building.specs.Writing.{residueOf, placeBytes, StatesKept, CellAsks, CellIs, TableAsks, RowAsks, KindsAsk, openingBytes, FrontAsks, frontBytes, BlocksLeft}
-use Rattle.building.proofs.Readable.{built-length, transition-wide, row-wide}
+use Rattle.convention.specs.Built.{allocations, made, builtVersion, builtCell, builtRow, builtKind, builtBody, tableOfStates, builtStates, builtTable}
+use Rattle.convention.proofs.Bytes.{length-written, written-nothing, written-sets, written-one, written-more, written-block}
+use Rattle.convention.proofs.Positions.{state-wide, kind-inside, row-inside, transition-inside}
+use Rattle.building.specs.Holding.{Room, StateAt, Finds, LeadIs}
+use Rattle.building.specs.Writing.{StatesKept, CellAsks, CellIs, TableAsks, RowAsks, KindsAsk, openingBytes, FrontAsks, frontBytes, BlocksLeft}
+use Rattle.building.proofs.Readable.{built-length, kind-wide, kinds-length, cell-wide, row-wide}
 use Rattle.building.proofs.Leading.{lead-asks, lead-of}
 
--- Where a row starts can be counted.
-cells-most : (m n : ℕ) → Fits w8 m → n ≤ 200 → 4 * m * n ≤ 4 * 255 * 200
-cells-most m n f h = let kinds : 4 * m ≤ 4 * 255 = omega (arith, f .fits) in mul-le-mul kinds h
+-- The stores of each part are the bytes of the part written: a state's number, a shape, the opening, a transition.
+pub stored-state : (v : ℕ) (d : List ℕ) (at n : ℕ) → at + stateLength v ≤ length d → set d at n ≡ written d at (stateBytes v n)
+unfolding stateLength stateBytes
+stored-state v d at n h = written-one d at n (omega arith)
 
-pub cells-fit : (m n : ℕ) → Fits w8 m → n ≤ 200 → Fits w64 (4 * m * n)
-cells-fit m n f h = record { fits = omega (arith, cells-most m n f h) }
+pub stored-shape : (v : ℕ) (d : List ℕ) (at : ℕ) (shape : Shape) → at + shapeLength v ≤ length d
+    → set (set d (at + sizeAt) (shape .size)) (at + alignmentAt) (shape .alignment) ≡ written d at (shapeBytes v shape)
+unfolding shapeLength shapeBytes
+stored-shape v d at shape h = rw (add-zero, add-one) (written-sets d at (shape .size ∷ shape .alignment ∷ []) h)
 
-pub row-most : (m n : ℕ) → Fits w8 m → n ≤ 200 → rowAt m n < 2 ^ 18
-row-most m n f h = omega (arith, f .fits, cells-most m n f h)
+pub stored-opening : (d : List ℕ) (v : ℕ) (h : Head) (follow : ℕ) → kindsAt ≤ length d
+    → set (set (set (set (set (set (set d 0 (follow / 256 % 256)) 1 (follow % 256)) 2 v) 3 (h .registers)) 4 (h .width)) 5 (h .modulus)) 6 (h .kinds)
+    ≡ written d 0 (openingBytes v h follow)
+stored-opening d v h follow room = written-sets d 0 (openingBytes v h follow) room
 
-pub row-fits : (m n : ℕ) → Fits w8 m → n ≤ 200 → Fits w64 (rowAt m n)
-row-fits m n f h = record { fits = omega (arith, row-most m n f h) }
+pub stored-transition : (v : ℕ) (d : List ℕ) (at : ℕ) (x : Transition) (out : List ℕ) → at + transitionLength v ≤ length d
+    → out ≡ written (set (set (set d (at + formAt) (x .form)) (at + aAt) (x .a)) (at + bAt) (x .b)) (at + nextAt) (stateBytes v (x .next))
+    → out ≡ written d at (transitionBytes v x)
+stored-transition v d at x out h e =
+    e ∙ rw (add-zero, add-one, add-two, written-sets d at (x .form ∷ x .a ∷ x .b ∷ []) (omega arith))
+    (written-more d at (x .form ∷ x .a ∷ x .b ∷ []) (omega arith) (stateBytes v (x .next)))
 
--- Four bytes stored one behind the other are the four bytes written.
-pub stored-four : (d : List ℕ) (at a b c x : ℕ) → at + 4 ≤ length d
-    → set (set (set (set d at a) (at + 1) b) (at + 2) c) (at + 3) x ≡ written d at (a ∷ b ∷ c ∷ x ∷ [])
-stored-four d at a b c x h = rw (add-one, add-two, add-three) (written-sets d at (a ∷ b ∷ c ∷ x ∷ []) h)
+-- What it asks of the last part, and that the memory is as long as it was.
+pub next-room : (v : ℕ) (d : List ℕ) (at : ℕ) (x : Transition) → at + transitionLength v ≤ length d
+    → at + nextAt + stateLength v ≤ length (set (set (set d (at + formAt) (x .form)) (at + aAt) (x .a)) (at + bAt) (x .b))
+next-room v d at x h = simp length-set (omega arith)
 
--- So are two, and seven from the first byte on.
-stored-two : (d : List ℕ) (at a b : ℕ) → at + 2 ≤ length d → set (set d at a) (at + 1) b ≡ written d at (a ∷ b ∷ [])
-stored-two d at a b h = rw add-one (written-sets d at (a ∷ b ∷ []) h)
+pub stores-keep : (d out : List ℕ) (at i j a b c : ℕ) → length out ≡ length (set (set (set d at a) i b) j c) → length out ≡ length d
+stores-keep d out at i j a b c e = simp length-set at e
 
-pub stored-opening : (d : List ℕ) (h : Head) (follow : ℕ) → 7 ≤ length d
-    → set (set (set (set (set (set (set d 0 (follow / 256 % 256)) 1 (follow % 256)) 2 1) 3 (h .registers)) 4 (h .width)) 5 (h .modulus)) 6 (h .kinds)
-    ≡ written d 0 (openingBytes h follow)
-stored-opening d h follow room = written-sets d 0 (openingBytes h follow) room
-
--- What is answered and what is written of a place is that of the case that it is known to be.
-pub known-residue : (place known : Placement) (modulus r : ℕ) → place ≡ known → r ≡ residueOf modulus known → r ≡ residueOf modulus place
-known-residue place known modulus r e h = rw e h
-
-pub known-written : (place known : Placement) (residue next : ℕ) (bytes : List ℕ) (d : List ℕ) (at : ℕ) (now : List ℕ) → place ≡ known
-    → now ≡ written d at bytes → bytes ≡ placeBytes known residue next → now ≡ written d at (placeBytes place residue next)
-known-written place known residue next bytes d at now e h b = rw (e, ← b) h
-
--- A place with its residue has the bytes of its transition.
-place-bytes : (modulus : ℕ) (place : Placement) (next : ℕ) → placeBytes place (residueOf modulus place) next ≡ transitionBytes modulus place next
-place-bytes modulus (Registers first count) next = refl
-place-bytes modulus (Stack offset count) next = refl
-place-bytes modulus Nowhere next = refl
+-- A transition's next is a state that was met, or there are as many.
+pub next-few : (modulus : ℕ) (place : Placement) (states : List ℕ) (count : ℕ) (a : Allocation) (number : ℕ) (x : Transition)
+    → x ≡ made modulus place number → Finds states count a number → Room states count → x .next ≤ stateLimit
+next-few modulus place states count a number x e finds room = rw e (most place)
+  where
+    most : (place : Placement) → made modulus place number .next ≤ stateLimit
+    most (Registers first n) = omega (arith, finds .within, room .few)
+    most (Stack offset n) = omega (arith, finds .within, room .few)
+    most Nowhere = omega arith
 
 -- A transition is that of the place to which the kind leads and of the number that was found.
-pub cell-written : (h : Head) (kind : SheetKind) (a : Allocation) (states : List ℕ) (count : ℕ) (place : Placement) (next : Allocation)
-    (residue number : ℕ) (d : List ℕ) (at : ℕ) (now : List ℕ) → LeadIs h kind a place next → Finds states count next number
-    → residue ≡ residueOf (h .modulus) place → now ≡ written d at (placeBytes place residue number) → CellIs h kind a states count d at now
-unfolding builtTransition
-cell-written h kind a states count place next residue number d at now lead finds er e = record {
-  cell = λ sheet k eh ek keeps.
+pub cell-written : (v : ℕ) (h : Head) (kind : SheetKind) (a : Allocation) (states : List ℕ) (count : ℕ) (place : Placement) (next : Allocation)
+    (number : ℕ) (x : Transition) (d : List ℕ) (at : ℕ) (now : List ℕ) → LeadIs h kind a place next → Finds states count next number
+    → x ≡ made (h .modulus) place number → now ≡ written d at (transitionBytes v x) → CellIs v h kind a states count d at now
+unfolding builtCell
+cell-written v h kind a states count place next number x d at now lead finds ex e = record {
+  cell = λ sheet k ev eh ek keeps.
       let here = lead-of sheet k h kind a place next eh ek lead in
-      let bytes = ap (λ x. placeBytes place x number) er ∙ place-bytes (h .modulus) place number in
-      rw (← here .placed, ← here .behind, ← finds .finds sheet _ keeps, ← eh, ← bytes) e;
+      rw (← ev, ← here .placed, ← here .behind, ← finds .finds sheet _ keeps, ← eh) (rw ex at e);
 }
 
--- Blocks of w bytes, one behind the other from byte `at` on: none yet, one more, all.
+-- Blocks of w bytes, one after the other from byte `at` on: none yet, one more, all.
 module _ (f : ℕ → List ℕ) (at all : ℕ) (before : List ℕ) where
   pub blocks-begin : BlocksLeft f at 0 all before before
   unfolding blocks
@@ -102,111 +102,118 @@ module _ (f : ℕ → List ℕ) (at all : ℕ) (before : List ℕ) where
 
 -- The kinds.
 module _ (sheet : Sheet) (k : ℕ) (before out : List ℕ) (asks : KindsAsk sheet before) (h : k < sheet .head .kinds)
-    (left : BlocksLeft (builtKind sheet) kindsAt k (sheet .head .kinds) before out) where
-  -- One more, by its two stores.
-  pub kind-on : BlocksLeft (builtKind sheet) kindsAt (k + 1) (sheet .head .kinds) before
-      (set (set out (7 + 2 * k) (sheetKind sheet k .size)) (7 + 2 * k + 1) (sheetKind sheet k .alignment))
-  kind-on = blocks-on (builtKind sheet) kindsAt _ before tableKindLength k out _ (λ i. refl) left h (omega (arith, asks .there))
-      (stored-two out (7 + 2 * k) _ _ (omega (arith, asks .there, left .long)))
+    (left : BlocksLeft (builtKind sheet) kindsAt k (sheet .head .kinds) before out) (v at : ℕ) (ev : v ≡ builtVersion sheet) (ea : at ≡ tableKindAt v k) where
+  inside : tableKindAt (builtVersion sheet) k + shapeLength (builtVersion sheet) ≤ length before
+  inside = omega (arith, kind-inside (builtVersion sheet) (sheet .head) k h, asks .there)
+
+  -- There is room for one more, and it is written.
+  pub kind-room : at + shapeLength v ≤ length out
+  kind-room = rw (ea, ev, left .long) inside
+
+  pub kind-on : (after : List ℕ) → after ≡ written out at (shapeBytes v (sheetKind sheet k .shape))
+      → BlocksLeft (builtKind sheet) kindsAt (k + 1) (sheet .head .kinds) before after
+  kind-on after e =
+      blocks-on (builtKind sheet) kindsAt _ before (shapeLength (builtVersion sheet)) k out after (kind-wide sheet) left h inside (rw (ea, ev) at e)
 
 -- The rows.
 module _ (sheet : Sheet) where
+  abbrev v : ℕ
+  v = builtVersion sheet
+
+  abbrev head : Head
+  head = sheet .head
+
   abbrev m : ℕ
   m = sheet .head .kinds
 
   abbrev l : List (Entry (allocations sheet))
   l = builtStates stateLimit sheet
 
-  -- A row of the table lies within it.
-  row-there : (states : List ℕ) (count i : ℕ) (out : List ℕ) → RowAsks sheet states count i out → rowAt m i + rowLength m ≤ length out
-  row-there states count i out asks = omega (arith, asks .asks .there, mul-le-mul-left (rowLength m) (asks .inside))
-
   -- The cells of a row.
-  module _ (states : List ℕ) (count i at k : ℕ) (before out : List ℕ) (asks : RowAsks sheet states count i before) (e : at ≡ rowAt m i) (a : Allocation)
-      (left : BlocksLeft (builtTransition sheet l a) at k m before out) where
+  module _ (states : List ℕ) (count i k : ℕ) (before out : List ℕ) (asks : RowAsks sheet states count i before) (a : Allocation)
+      (left : BlocksLeft (builtCell sheet l a) (rowAt v head i) k m before out) where
     -- One more.
-    module _ (h : k < m) where
-      pub cell-asks : CellAsks (sheet .head) (sheetKind sheet k) states count out (at + 4 * k)
+    module _ (h : k < m) (v′ at : ℕ) (ev : v′ ≡ v) (ea : at ≡ transitionAt v′ head i k) where
+      there : transitionAt v head i k + transitionLength v ≤ length before
+      there = omega (arith, transition-inside v head count i (asks .inside) k h, asks .asks .there)
+
+      pub cell-asks : CellAsks v′ (sheet .head) (sheetKind sheet k) states count out at
       cell-asks =
           let kept = asks .asks .kept in
-          record { lead = lead-asks sheet k (kept .read) h; room = kept .room; there = omega (arith, row-there states count i before asks, left .long) }
+          record { lead = lead-asks sheet k (kept .read) h; room = kept .room; there = rw (ea, ev, left .long) there }
 
-      pub cell-on : (after : List ℕ) → CellIs (sheet .head) (sheetKind sheet k) a states count out (at + 4 * k) after
-          → BlocksLeft (builtTransition sheet l a) at (k + 1) m before after
+      pub cell-on : (after : List ℕ) → CellIs v′ (sheet .head) (sheetKind sheet k) a states count out at after
+          → BlocksLeft (builtCell sheet l a) (rowAt v head i) (k + 1) m before after
       cell-on after is =
-          blocks-on (builtTransition sheet l a) at m before transitionLength k out after (transition-wide sheet l a) left h
-          (omega (arith, row-there states count i before asks)) (is .cell sheet k refl refl (asks .asks .kept .keeps))
+          blocks-on (builtCell sheet l a) (rowAt v head i) m before (transitionLength v) k out after (cell-wide sheet l a) left h there
+          (rw (ea, ev) at (is .cell sheet k ev refl refl (asks .asks .kept .keeps)))
 
     -- All of them.
-    pub row-end : StateAt states i a → m ≤ k → out ≡ written before (rowAt m i) (builtRow sheet l i)
+    pub row-end : StateAt states i a → m ≤ k → out ≡ written before (rowAt (builtVersion sheet) (sheet .head) i) (builtRow sheet (builtStates stateLimit sheet) i)
     unfolding builtRow
     row-end from h =
         let node = from .state sheet count l (asks .asks .kept .keeps) (asks .inside) in
-        rw (node, ← e) (blocks-end _ at m before k out left h)
+        rw node (blocks-end _ (rowAt v head i) m before k out left h)
 
   -- The rows.
   module _ (states : List ℕ) (count i : ℕ) (before out : List ℕ) (asks : TableAsks sheet states count before) (h : i < count)
-      (left : BlocksLeft (builtRow sheet l) (rowsAt m) i count before out) where
+      (left : BlocksLeft (builtRow sheet l) (rowsAt v head) i count before out) where
     pub row-asks : RowAsks sheet states count i out
     row-asks = record { asks = record { kept = asks .kept; there = rw (left .long) (asks .there) }; inside = h }
 
-    pub row-on : (after : List ℕ) → after ≡ written out (rowAt m i) (builtRow sheet l i)
-        → BlocksLeft (builtRow sheet l) (rowsAt m) (i + 1) count before after
+    pub row-on : (after : List ℕ) → after ≡ written out (rowAt v head i) (builtRow sheet l i)
+        → BlocksLeft (builtRow sheet l) (rowsAt v head) (i + 1) count before after
     row-on after e =
-        blocks-on (builtRow sheet l) (rowsAt m) count before (rowLength m) i out after (row-wide sheet l) left h
-        (row-there states count i before (record { asks = asks; inside = h })) e
+        blocks-on (builtRow sheet l) (rowsAt v head) count before (rowLength v head) i out after (row-wide sheet l) left h
+        (omega (arith, row-inside v head count i h, asks .there)) e
 
--- One more part, written right behind those from the first byte on.
-behind : (d bs cs out next : List ℕ) (at : ℕ) → out ≡ written d 0 bs → at ≡ length bs → next ≡ written out at cs → next ≡ written d 0 (bs ++ cs)
-behind d bs cs out next at eo ea en =
+-- One more part, written right after those from the first byte on.
+next-part : (d bs cs out next : List ℕ) (at : ℕ) → out ≡ written d 0 bs → at ≡ length bs → next ≡ written out at cs → next ≡ written d 0 (bs ++ cs)
+next-part d bs cs out next at eo ea en =
     let place : at ≡ 0 + length bs = omega arith in
     en ∙ rw (eo, place) (written-more d 0 bs zero-le cs)
-
--- A store behind two parts that were written leaves as many bytes as there were.
-pub store-keeps : (d opened named : List ℕ) (at b : ℕ) → length named ≡ length opened → length opened ≡ length d → length (set named at b) ≡ length d
-store-keeps d opened named at b e f = rw length-set (e ∙ f)
 
 -- What stands before the rows, part by part.
 module _ (sheet : Sheet) (states : ℕ) where
   abbrev opening : List ℕ
-  opening = openingBytes (sheet .head) (rowAt (m sheet) states - 2)
+  opening = openingBytes (v sheet) (head sheet) (tableLength (v sheet) (head sheet) states - lengthBytes)
 
   abbrev kinds : List ℕ
   kinds = blocks (builtKind sheet) (m sheet)
 
-  kinds-end : statesAt (m sheet) ≡ length (opening ++ kinds)
-  kinds-end = simp (length-append, length-blocks (builtKind sheet) tableKindLength (m sheet) (λ k h. refl)) (omega arith)
+  kinds-end : statesAt (v sheet) (head sheet) ≡ length (opening ++ kinds)
+  kinds-end = simp (length-append, kinds-length) (omega arith)
 
-  front-end : rowsAt (m sheet) ≡ length (frontBytes sheet states)
-  front-end = rw length-append (omega (arith, kinds-end))
+  front-end : rowsAt (v sheet) (head sheet) ≡ length (frontBytes sheet states)
+  front-end = rw (length-append, state-wide) (omega (arith, kinds-end))
 
-  pub front-written : (len : ℕ) (d opened named : List ℕ) → FrontAsks sheet states d → len ≡ rowAt (sheet .head .kinds) states
-      → opened ≡ written d 0 (openingBytes (sheet .head) (len - 2))
-      → named ≡ written opened 7 (blocks (builtKind sheet) (sheet .head .kinds))
-      → set named (7 + 2 * sheet .head .kinds) states ≡ written d 0 (frontBytes sheet states)
-  front-written len d opened named asks el eo en =
-      behind d (opening ++ kinds) (states ∷ []) named _ (statesAt (m sheet)) there kinds-end (written-one named _ states inside)
-    where
-      there : named ≡ written d 0 (opening ++ kinds)
-      there = behind d opening kinds opened named kindsAt (rw (← el) eo) refl en
+  module _ (v′ : ℕ) (h : Head) (len at : ℕ) (d opened named : List ℕ) (asks : FrontAsks sheet states d) (ev : v′ ≡ builtVersion sheet)
+      (eh : h ≡ sheet .head) (el : len ≡ rowAt v′ h states) (eo : opened ≡ written d 0 (openingBytes v′ h (len - lengthBytes)))
+      (en : named ≡ written opened kindsAt (blocks (builtKind sheet) (sheet .head .kinds))) (ea : at ≡ statesAt v′ h) where
+    named-is : named ≡ written d 0 (opening ++ kinds)
+    named-is = next-part d opening kinds opened named kindsAt (rw (el, ev, eh) at eo) refl en
 
-      inside : statesAt (m sheet) < length named
-      inside =
-          let room : 0 + length (opening ++ kinds) ≤ length d = omega (arith, kinds-end, asks .there) in
-          rw there (omega (arith, length-written d 0 (opening ++ kinds) room, asks .there))
+    -- There is room for N after the kinds, and it is written there.
+    pub states-room : at + stateLength v′ ≤ length named
+    states-room =
+        let room : 0 + length (opening ++ kinds) ≤ length d = omega (arith, kinds-end, asks .there) in
+        rw (ea, ev, eh, named-is, length-written d 0 (opening ++ kinds) room) (asks .there)
+
+    pub front-written : (out : List ℕ) → out ≡ written named at (stateBytes v′ states) → out ≡ written d 0 (frontBytes sheet states)
+    front-written out e = next-part d (opening ++ kinds) (stateBytes (v sheet) states) named out (statesAt (v sheet) (head sheet)) named-is kinds-end (rw (ea, ev, eh) at e)
 
 -- That and the rows are the table.
 module _ (sheet : Sheet) (states : List ℕ) (count : ℕ) (kept : StatesKept sheet states count) where
   -- As many bytes follow the length as it says.
-  follow : rowAt (m sheet) count - 2 ≡ length (builtBody sheet (l sheet))
+  follow : tableLength (v sheet) (head sheet) count - lengthBytes ≡ length (builtBody sheet (l sheet))
   unfolding tableOfStates
   follow = omega (arith, rw (← kept .keeps .many) at (built-length sheet (l sheet)))
 
   parts : frontBytes sheet count ++ blocks (builtRow sheet (l sheet)) count ≡ builtTable stateLimit sheet
   unfolding tableOfStates builtBody
-  parts = rw (append-snoc, follow, kept .keeps .many)
+  parts = rw (append-assoc, follow, kept .keeps .many)
 
   pub table-written : (d front out : List ℕ) → front ≡ written d 0 (frontBytes sheet count)
-      → out ≡ written front (rowsAt (sheet .head .kinds)) (blocks (builtRow sheet (builtStates stateLimit sheet)) count)
+      → out ≡ written front (rowsAt (builtVersion sheet) (sheet .head)) (blocks (builtRow sheet (builtStates stateLimit sheet)) count)
       → out ≡ written d 0 (builtTable stateLimit sheet)
-  table-written d front out ef er = rw (← parts) (behind d (frontBytes sheet count) _ front out (rowsAt (m sheet)) ef (front-end sheet count) er)
+  table-written d front out ef er = rw (← parts) (next-part d (frontBytes sheet count) _ front out (rowsAt (v sheet) (head sheet)) ef (front-end sheet count) er)

@@ -2,15 +2,11 @@
 use Prim.Native.Nat.{ℕ, _<_}
 use mathlib.Core.Path.{_≡_}
 use mathlib.Core.List.{List}
-use lib.Dec.{ltb, eqb}
 use lib.ListN.{length, getD}
 use Rattle.convention.specs.declared.Sheet.{Sheet}
 use Rattle.convention.specs.declared.Allocation.{Allocation}
-use Rattle.convention.specs.Tables.{tableOf, transition}
 use Rattle.convention.specs.Rules.{noRegisters, byRules}
-use Rattle.convention.specs.Lists.{faultFrom, stateFrom}
-use Rattle.convention.specs.Judged.{KindsBelow}
-use Rattle.convention.specs.Explored.{Automaton}
+use Rattle.convention.specs.Lists.{faultFrom, stateFrom, KindsBelow}
 use Rattle.convention.specs.Built.{allocation}
 
 -- 'states that some list of kinds reaches by the rules': every argument of the list has a place, and behind the last the rules stand in the state.
@@ -29,14 +25,3 @@ pub record ReachMore (limit : ℕ) (sheet : Sheet) : Type 0 where
   pub different : (i j : ℕ) → i < j → j < length states → getD states i firstAllocation ≡ getD states j firstAllocation → ⊥
   pub reached : (i : ℕ) → i < length states → (ks : List ℕ) × Reaches sheet ks (getD states i firstAllocation)
   pub more : limit < length states
-
--- A table's states, with where each kind leads: to the next state, where its form is 1 or 2.
-abbrev pub tableStates : List ℕ → Automaton
-tableStates t = record {
-  Node = ℕ;
-  same = eqb;
-  start = 0;
-  kinds = tableOf t .head .kinds;
-  goes = λ i k. ltb 0 (transition (tableOf t) t i k .form);
-  next = λ i k. transition (tableOf t) t i k .next;
-}

@@ -1,5 +1,5 @@
 -- What the functions that write the table ask of one another.
-use Prim.Native.Nat.{ℕ, _+_, _-_, _%_, _≤_, _<_}
+use Prim.Native.Nat.{ℕ, _+_, _-_, _≤_, _<_}
 use mathlib.Core.Path.{_≡_}
 use mathlib.Core.List.{List, [], _∷_, _++_}
 use lib.Dec.{leb}
@@ -7,16 +7,16 @@ use lib.ListN.{length}
 use Rattle.convention.specs.declared.Head.{Head}
 use Rattle.convention.specs.declared.SheetKind.{SheetKind}
 use Rattle.convention.specs.declared.Sheet.{Sheet}
-use Rattle.convention.specs.declared.Placement.{Placement}
-use Rattle.convention.specs.declared.Placement.the-variants.{Registers, Stack, Nowhere}
+use Rattle.convention.specs.declared.Spelling.{Spelling}
 use Rattle.convention.specs.declared.Allocation.{Allocation}
 use Rattle.convention.specs.declared.Building.{Building}
 use Rattle.convention.specs.Numbers.{stateLimit, orElse, unless}
 use Rattle.convention.specs.Bytes.{twoBytes, written, blocks}
 use Rattle.convention.specs.Sheets.{sheetKind}
-use Rattle.convention.specs.Tables.{statesAt, transitionLength, rowsAt, rowAt}
+use Rattle.convention.specs.Layout.{lengthBytes, statesAt, rowsAt, transitionLength, tableLength}
+use Rattle.convention.specs.Fields.{stateBytes}
 use Rattle.convention.specs.Promised.{SheetRead}
-use Rattle.convention.specs.Built.{builtKind, builtTransition, builtStates, builtTable, statesNumber, buildAnswer, buildWrites}
+use Rattle.convention.specs.Built.{builtKind, builtVersion, builtCell, builtStates, builtTable, statesNumber, buildAnswer, buildWrites}
 use Rattle.building.specs.Holding.{Room, Keeps, LeadAsks}
 
 -- A sheet that was read, and all its states kept, no more than have room.
@@ -25,33 +25,26 @@ pub record StatesKept (sheet : Sheet) (states : List ℕ) (count : ℕ) : Type 0
   pub room : Room states count
   pub keeps : Keeps sheet states count (builtStates stateLimit sheet)
 
--- The residue of a place: on the stack the offset's remainder by A, elsewhere 0.
-abbrev pub residueOf : ℕ → Placement → ℕ
-residueOf modulus (Registers first count) = 0
-residueOf modulus (Stack offset count) = offset .0 % modulus
-residueOf modulus Nowhere = 0
-
--- A transition's bytes, of a place with its residue.
-abbrev pub placeBytes : Placement → ℕ → ℕ → List ℕ
-placeBytes (Registers first count) residue next = 1 ∷ first .0 ∷ count ∷ next ∷ []
-placeBytes (Stack offset count) residue next = 2 ∷ residue ∷ count ∷ next ∷ []
-placeBytes Nowhere residue next = 0 ∷ 0 ∷ 0 ∷ 0 ∷ []
+-- What a placement is made of, to be a transition's: a number that is no offset is a byte.
+pub record FieldAsks (modulus : ℕ) (told : Spelling) : Type 0 where
+  pub some : 0 < modulus
+  pub byte : (told .form ≡ 2 → ⊥) → told .number < 256
 
 -- One transition, from byte `at` on: that of a head and a kind that were read.
-pub record CellAsks (h : Head) (k : SheetKind) (states : List ℕ) (count : ℕ) (out : List ℕ) (at : ℕ) : Type 0 where
+pub record CellAsks (v : ℕ) (h : Head) (k : SheetKind) (states : List ℕ) (count : ℕ) (out : List ℕ) (at : ℕ) : Type 0 where
   pub lead : LeadAsks h k
   pub room : Room states count
-  pub there : at + transitionLength ≤ length out
+  pub there : at + transitionLength v ≤ length out
 
 -- Where it is kind k of a sheet, and the sheet's states are kept, the transition is that of the built table.
-pub record CellIs (h : Head) (kind : SheetKind) (a : Allocation) (states : List ℕ) (count : ℕ) (before : List ℕ) (at : ℕ) (after : List ℕ) : Type 0 where
-  pub cell : (sheet : Sheet) (k : ℕ) → h ≡ sheet .head → kind ≡ sheetKind sheet k → Keeps sheet states count (builtStates stateLimit sheet)
-      → after ≡ written before at (builtTransition sheet (builtStates stateLimit sheet) a k)
+pub record CellIs (v : ℕ) (h : Head) (kind : SheetKind) (a : Allocation) (states : List ℕ) (count : ℕ) (before : List ℕ) (at : ℕ) (after : List ℕ) : Type 0 where
+  pub cell : (sheet : Sheet) (k : ℕ) → v ≡ builtVersion sheet → h ≡ sheet .head → kind ≡ sheetKind sheet k
+      → Keeps sheet states count (builtStates stateLimit sheet) → after ≡ written before at (builtCell sheet (builtStates stateLimit sheet) a k)
 
 -- All rows, in the room of a whole table.
 pub record TableAsks (sheet : Sheet) (states : List ℕ) (count : ℕ) (out : List ℕ) : Type 0 where
   pub kept : StatesKept sheet states count
-  pub there : rowAt (sheet .head .kinds) count ≤ length out
+  pub there : tableLength (builtVersion sheet) (sheet .head) count ≤ length out
 
 -- One of them.
 pub record RowAsks (sheet : Sheet) (states : List ℕ) (count i : ℕ) (out : List ℕ) : Type 0 where
@@ -61,21 +54,22 @@ pub record RowAsks (sheet : Sheet) (states : List ℕ) (count i : ℕ) (out : Li
 -- The kinds.
 pub record KindsAsk (sheet : Sheet) (out : List ℕ) : Type 0 where
   pub read : SheetRead sheet
-  pub there : statesAt (sheet .head .kinds) ≤ length out
+  pub there : statesAt (builtVersion sheet) (sheet .head) ≤ length out
 
 -- What stands before the kinds: how many bytes follow, the version, the head.
-abbrev pub openingBytes : Head → ℕ → List ℕ
-openingBytes h follow = twoBytes follow ++ 1 ∷ h .registers ∷ h .width ∷ h .modulus ∷ h .kinds ∷ []
+abbrev pub openingBytes : ℕ → Head → ℕ → List ℕ
+openingBytes v h follow = twoBytes follow ++ v ∷ h .registers ∷ h .width ∷ h .modulus ∷ h .kinds ∷ []
 
 -- What stands before the rows of so many states, in its room.
 abbrev pub frontBytes : Sheet → ℕ → List ℕ
 frontBytes sheet states =
-    (openingBytes (sheet .head) (rowAt (sheet .head .kinds) states - 2) ++ blocks (builtKind sheet) (sheet .head .kinds)) ++ states ∷ []
+    let v = builtVersion sheet in
+    (openingBytes v (sheet .head) (tableLength v (sheet .head) states - lengthBytes) ++ blocks (builtKind sheet) (sheet .head .kinds)) ++ stateBytes v states
 
 pub record FrontAsks (sheet : Sheet) (states : ℕ) (out : List ℕ) : Type 0 where
   pub read : SheetRead sheet
   pub room : states ≤ stateLimit
-  pub there : rowsAt (sheet .head .kinds) ≤ length out
+  pub there : rowsAt (builtVersion sheet) (sheet .head) ≤ length out
 
 -- Half way through blocks that are written one behind the other from byte `at` on: n of all are there.
 pub record BlocksLeft (block : ℕ → List ℕ) (at n all : ℕ) (before out : List ℕ) : Type 0 where

@@ -8,24 +8,41 @@ use convention::Head;
 use convention::Offset;
 use convention::Placement;
 use convention::Reading;
+use convention::STATE_LIMIT;
+use convention::Shape;
 use convention::Sheet;
 use convention::SheetKind;
+use convention::Spelling;
+use convention::Transition;
+use fields::layout;
+use fields::layout::A_AT;
+use fields::layout::ALIGNMENT_AT;
+use fields::layout::B_AT;
+use fields::layout::FORM_AT;
+use fields::layout::KINDS_COUNT_AT;
+use fields::layout::LENGTH_BYTES;
+use fields::layout::MODULUS_AT;
+use fields::layout::NEXT_AT;
+use fields::layout::REGISTERS_AT;
+use fields::layout::SIZE_AT;
+use fields::layout::VERSION_AT;
+use fields::layout::WIDTH_AT;
 ghost use mathlib.Core.Path.{_≡_};
-ghost use Prim.Native.Nat.{_+_, _%_, _≤_, _<_, _^_};
-ghost use mathlib.Core.List.{[], _∷_};
+ghost use Prim.Native.Nat.{_+_, _%_, _≤_, _<_};
 ghost use lib.ListN.{length};
 ghost use mathlib.Core.Bool.{not};
-ghost use lib.Dec.{eqb, leb};
+ghost use lib.Dec.{leb};
 ghost use Rattle.convention.specs.Numbers.{stateLimit, orElse, unless};
 ghost use Rattle.convention.specs.Bytes.{written, blocks};
-ghost use Rattle.convention.specs.Tables.{rowsAt, rowAt};
+ghost use Rattle.convention.specs.Layout.{kindsAt, shapeLength, stateLength, rowsAt, transitionLength, rowAt};
+ghost use Rattle.convention.specs.Fields.{shapeBytes, stateBytes};
+ghost use Rattle.convention.specs.Tables.{transitionBytes};
 ghost use Rattle.convention.specs.Promised.{SheetRead};
-ghost use Rattle.convention.specs.Rules.{placeFault};
 ghost use Rattle.convention.specs.Explored.{met as metBefore};
-ghost use Rattle.convention.specs.Built.{allocation as allocationOf, allocations, builtRow, builtKind, builtStates, builtTable, buildAnswer, build as builds, buildMemory};
+ghost use Rattle.convention.specs.Built.{allocation as allocationOf, allocations, fieldA, made, builtVersion, builtRow, builtKind, builtStates, builtTable, buildAnswer, build as builds, buildMemory};
 ghost use Rattle.building.specs.Reached.{firstAllocation};
 ghost use Rattle.building.specs.Holding.{Holds, LeadAsks, LeadIs, PassAsks, Passes, VisitAsks, ExploreAsks};
-ghost use Rattle.building.specs.Writing.{residueOf, placeBytes, CellAsks, CellIs, TableAsks, RowAsks, KindsAsk, openingBytes, FrontAsks, frontBytes, BuildingIs};
+ghost use Rattle.building.specs.Writing.{FieldAsks, CellAsks, CellIs, TableAsks, RowAsks, KindsAsk, openingBytes, FrontAsks, frontBytes, BuildingIs};
 use crate::memory::Met;
 
 // An offset's remainder by A.
@@ -73,17 +90,6 @@ fn lead(head: Head, kind: SheetKind, a: Allocation) -> Led
     Led { place, next }
 }
 
-// Whether there is a place. A step without one leads nowhere.
-fn is_place(place: Placement) -> bool
-    ensures { λ r. ⌜ r ≡ eqb (placeFault place) 0 ⌝ }
-{
-    match place {
-        Placement::Registers(_, _) => true,
-        Placement::Stack(_, _) => true,
-        Placement::Nowhere => false,
-    }
-}
-
 // A kind gone through at a state: what it leads to is met, where it leads on.
 fn pass(head: Head, kind: SheetKind, a: Allocation, states: &mut [u32], met: Met) -> Met
     requires { ⌜ PassAsks head kind (now states) (met .count) ⌝ }
@@ -91,7 +97,7 @@ fn pass(head: Head, kind: SheetKind, a: Allocation, states: &mut [u32], met: Met
 {
     let led = lead(head, kind, a);
     let place = led.place;
-    if is_place(place) {
+    if places::place_fault(place) == 0 {
         let next = led.next;
         return memory::meet(states, met, next);
     }
@@ -147,53 +153,71 @@ fn explore(sheet: Sheet, states: &mut [u32]) -> Met
     met
 }
 
-// Where the row of a state starts in a table of so many kinds; behind the last row, the table's length.
-fn row_at(kinds: u8, state: usize) -> usize
-    requires { ⌜ state ≤ 200 ⌝ }
-    ensures { λ r. ⌜ r ≡ rowAt kinds state ⌝ }
-    ensures { λ r. ⌜ r < 2 ^ 18 ⌝ }
+// The version of a sheet's table.
+fn built_version(sheet: Sheet) -> u8
+    ensures { λ r. ⌜ r ≡ builtVersion sheet ⌝ }
 {
-    let m = kinds as usize;
-    7 + 2 * m + 1 + 4 * m * state
+    1
 }
 
-// Writes a transition's fields, one behind the other. Private: only a place says which fields belong together.
-fn write_fields(form: u8, a: u8, b: u8, next: u8, out: &mut [u8], at: usize)
-    requires { ⌜ at + 4 ≤ length (now out) ⌝ }
-    ensures { λ _. ⌜ now (out .exit) ≡ written (now (out .entry)) at (form ∷ a ∷ b ∷ next ∷ []) ⌝ }
+// Writes the number of states, or of a state, from byte `at` on.
+fn write_state(version: u8, n: u16, out: &mut [u8], at: usize)
+    requires { ⌜ (n ≤ stateLimit) × (at + stateLength version ≤ length (now out)) ⌝ }
+    ensures { λ _. ⌜ now (out .exit) ≡ written (now (out .entry)) at (stateBytes version n) ⌝ }
 {
-    out[at] = form;
-    out[at + 1] = a;
-    out[at + 2] = b;
-    out[at + 3] = next;
+    out[at] = n as u8;
 }
 
-// The residue of a place: on the stack its offset's remainder by A. Elsewhere there is none, and 0 is answered.
-fn residue_of(modulus: u8, place: Placement) -> u8
+// Writes a kind's shape, from byte `at` on.
+fn write_shape(version: u8, shape: Shape, out: &mut [u8], at: usize)
+    requires { ⌜ at + shapeLength version ≤ length (now out) ⌝ }
+    ensures { λ _. ⌜ now (out .exit) ≡ written (now (out .entry)) at (shapeBytes version shape) ⌝ }
+{
+    out[at + SIZE_AT] = shape.size;
+    out[at + ALIGNMENT_AT] = shape.alignment;
+}
+
+// Field a of a transition: on the stack the residue, the offset's remainder by A; otherwise the number as it stands.
+fn field_a(modulus: u8, told: Spelling) -> u8
+    requires { ⌜ FieldAsks modulus told ⌝ }
+    ensures { λ r. ⌜ r ≡ fieldA modulus told ⌝ }
+{
+    if told.form == 2 {
+        return residue(modulus, Offset(told.number));
+    }
+    told.number as u8
+}
+
+// The transition that is made of a place and the next state's number.
+fn make_transition(modulus: u8, place: Placement, next: u16) -> Transition
     requires { ⌜ 0 < modulus ⌝ }
-    ensures { λ r. ⌜ r ≡ residueOf modulus place ⌝ }
+    ensures { λ r. ⌜ r ≡ made modulus place next ⌝ }
 {
-    match place {
-        Placement::Registers(_, _) => 0,
-        Placement::Stack(offset, _) => residue(modulus, offset),
-        Placement::Nowhere => 0,
+    let told = places::spell(place);
+    let a = field_a(modulus, told);
+    let leads = if told.form == 0 { 0 } else { next };
+    Transition {
+        form: told.form,
+        a,
+        b: told.count,
+        next: leads,
     }
 }
 
-// Writes the transition that is made of a place, its residue and the next state's number.
-fn write_transition(place: Placement, residue: u8, next: u8, out: &mut [u8], at: usize)
-    requires { ⌜ at + 4 ≤ length (now out) ⌝ }
-    ensures { λ _. ⌜ now (out .exit) ≡ written (now (out .entry)) at (placeBytes place residue next) ⌝ }
+// Writes a transition, from byte `at` on.
+fn write_transition(version: u8, x: Transition, out: &mut [u8], at: usize)
+    requires { ⌜ (x .next ≤ stateLimit) × (at + transitionLength version ≤ length (now out)) ⌝ }
+    ensures { λ _. ⌜ now (out .exit) ≡ written (now (out .entry)) at (transitionBytes version x) ⌝ }
 {
-    match place {
-        Placement::Registers(first, count) => write_fields(1, first.0, count, next, out, at),
-        Placement::Stack(_, count) => write_fields(2, residue, count, next, out, at),
-        Placement::Nowhere => write_fields(0, 0, 0, 0, out, at),
-    }
+    out[at + FORM_AT] = x.form;
+    out[at + A_AT] = x.a;
+    out[at + B_AT] = x.b;
+    write_state(version, x.next, out, at + NEXT_AT);
 }
 
 // Writes where a kind goes from a state.
 fn write_cell(
+    version: u8,
     head: Head,
     kind: SheetKind,
     a: Allocation,
@@ -202,30 +226,31 @@ fn write_cell(
     out: &mut [u8],
     at: usize,
 )
-    requires { ⌜ CellAsks head kind (now states) count (now out) at ⌝ }
-    ensures { λ _. ⌜ CellIs head kind a (now (states .entry)) count (now (out .entry)) at (now (out .exit)) ⌝ }
+    requires { ⌜ CellAsks version head kind (now states) count (now out) at ⌝ }
+    ensures { λ _. ⌜ CellIs version head kind a (now (states .entry)) count (now (out .entry)) at (now (out .exit)) ⌝ }
 {
     let led = lead(head, kind, a);
     let next = led.next;
     let number = memory::find(states, count, next);
     let place = led.place;
-    let residue = residue_of(head.modulus, place);
-    write_transition(place, residue, number as u8, out, at);
+    let x = make_transition(head.modulus, place, number as u16);
+    write_transition(version, x, out, at);
 }
 
 // Writes the row of state i, in the order of the kinds.
 fn write_row(sheet: Sheet, states: &[u32], count: usize, i: usize, out: &mut [u8])
     requires { ⌜ RowAsks sheet (now states) count i (now out) ⌝ }
-    ensures { λ _. ⌜ now (out .exit) ≡ written (now (out .entry)) (rowAt (sheet .head .kinds) i) (builtRow sheet (builtStates stateLimit sheet) i) ⌝ }
+    ensures { λ _. ⌜ now (out .exit) ≡ written (now (out .entry)) (rowAt (builtVersion sheet) (sheet .head) i) (builtRow sheet (builtStates stateLimit sheet) i) ⌝ }
 {
     let from = memory::state_at(states, i);
+    let version = built_version(sheet);
     let head = sheet.head;
     let kinds = head.kinds;
-    let at = row_at(kinds, i);
     let mut k: u8 = 0;
     while k < kinds {
         let kind = sheet.kinds[k as usize];
-        write_cell(head, kind, from, states, count, out, at + 4 * k as usize);
+        let at = layout::transition_at(version, head, i as u16, k);
+        write_cell(version, head, kind, from, states, count, out, at);
         k += 1;
     }
 }
@@ -233,7 +258,7 @@ fn write_row(sheet: Sheet, states: &[u32], count: usize, i: usize, out: &mut [u8
 // Writes a row for each state, in the order of their numbers.
 fn write_rows(sheet: Sheet, states: &[u32], count: usize, out: &mut [u8])
     requires { ⌜ TableAsks sheet (now states) count (now out) ⌝ }
-    ensures { λ _. ⌜ now (out .exit) ≡ written (now (out .entry)) (rowsAt (sheet .head .kinds)) (blocks (builtRow sheet (builtStates stateLimit sheet)) count) ⌝ }
+    ensures { λ _. ⌜ now (out .exit) ≡ written (now (out .entry)) (rowsAt (builtVersion sheet) (sheet .head)) (blocks (builtRow sheet (builtStates stateLimit sheet)) count) ⌝ }
 {
     let mut i: usize = 0;
     while i < count {
@@ -242,34 +267,34 @@ fn write_rows(sheet: Sheet, states: &[u32], count: usize, out: &mut [u8])
     }
 }
 
-// Writes the kinds' sizes and alignments, behind the seven bytes of the opening.
+// Writes the kinds' shapes, after the opening.
 fn write_kinds(sheet: Sheet, out: &mut [u8])
     requires { ⌜ KindsAsk sheet (now out) ⌝ }
-    ensures { λ _. ⌜ now (out .exit) ≡ written (now (out .entry)) 7 (blocks (builtKind sheet) (sheet .head .kinds)) ⌝ }
+    ensures { λ _. ⌜ now (out .exit) ≡ written (now (out .entry)) kindsAt (blocks (builtKind sheet) (sheet .head .kinds)) ⌝ }
 {
+    let version = built_version(sheet);
     let kinds = sheet.head.kinds;
     let mut k: u8 = 0;
     while k < kinds {
         let kind = sheet.kinds[k as usize];
-        let at = 7 + 2 * k as usize;
-        out[at] = kind.size;
-        out[at + 1] = kind.alignment;
+        let shape = kind.shape;
+        write_shape(version, shape, out, layout::table_kind_at(version, k));
         k += 1;
     }
 }
 
 // Writes what stands before the kinds: how many bytes follow the length, the version and the head.
-fn write_opening(head: Head, follow: usize, out: &mut [u8])
-    requires { ⌜ 7 ≤ length (now out) ⌝ }
-    ensures { λ _. ⌜ now (out .exit) ≡ written (now (out .entry)) 0 (openingBytes head follow) ⌝ }
+fn write_opening(version: u8, head: Head, follow: usize, out: &mut [u8])
+    requires { ⌜ kindsAt ≤ length (now out) ⌝ }
+    ensures { λ _. ⌜ now (out .exit) ≡ written (now (out .entry)) 0 (openingBytes version head follow) ⌝ }
 {
     out[0] = (follow / 0x100 % 0x100) as u8;
     out[1] = (follow % 0x100) as u8;
-    out[2] = 1;
-    out[3] = head.registers;
-    out[4] = head.width;
-    out[5] = head.modulus;
-    out[6] = head.kinds;
+    out[VERSION_AT] = version;
+    out[REGISTERS_AT] = head.registers;
+    out[WIDTH_AT] = head.width;
+    out[MODULUS_AT] = head.modulus;
+    out[KINDS_COUNT_AT] = head.kinds;
 }
 
 // Writes what stands before the rows: the opening, the kinds and N.
@@ -277,12 +302,13 @@ fn write_front(sheet: Sheet, states: usize, out: &mut [u8])
     requires { ⌜ FrontAsks sheet states (now out) ⌝ }
     ensures { λ _. ⌜ now (out .exit) ≡ written (now (out .entry)) 0 (frontBytes sheet states) ⌝ }
 {
+    let version = built_version(sheet);
     let head = sheet.head;
-    let kinds = head.kinds;
-    let len = row_at(kinds, states);
-    write_opening(head, len - 2, out);
+    let n = states as u16;
+    let len = layout::row_at(version, head, n);
+    write_opening(version, head, len - LENGTH_BYTES, out);
     write_kinds(sheet, out);
-    out[7 + 2 * kinds as usize] = states as u8;
+    write_state(version, n, out, layout::states_at(version, head));
 }
 
 // Writes the table of a sheet whose states were all met.
@@ -305,7 +331,7 @@ fn build_no(met: Met, len: usize, room: usize) -> u8
 
 // What a number answers: N and the table's length where it is 0, else the refusal.
 fn build_answer(number: u8, states: usize, len: usize) -> Building
-    requires { ⌜ states ≤ 200 ⌝ }
+    requires { ⌜ states ≤ stateLimit ⌝ }
     ensures { λ r. ⌜ r ≡ buildAnswer number states len ⌝ }
 {
     if number != 0 {
@@ -319,9 +345,9 @@ fn build_sheet(sheet: Sheet, out: &mut [u8]) -> Building
     requires { ⌜ SheetRead sheet ⌝ }
     ensures { λ r. ⌜ BuildingIs sheet (now (out .entry)) r (now (out .exit)) ⌝ }
 {
-    let mut states = [0u32; 200];
+    let mut states = [0u32; STATE_LIMIT];
     let met = explore(sheet, &mut states);
-    let len = row_at(sheet.head.kinds, met.count);
+    let len = layout::row_at(built_version(sheet), sheet.head, met.count as u16);
     let number = build_no(met, len, out.len());
     let answer = build_answer(number, met.count, len);
     if number == 0 {

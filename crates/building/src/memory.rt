@@ -1,6 +1,7 @@
 // The memory of the states met, which is lent. It keeps each as one number, its key, so that to find one is a comparison of
 // two numbers for each. Its callers know no key: they give and get allocation states.
 use convention::Allocation;
+use convention::STATE_LIMIT;
 ghost use mathlib.Core.Path.{_≡_};
 ghost use Prim.Native.Nat.{_<_};
 ghost use lib.ListN.{length};
@@ -94,7 +95,7 @@ pub(crate) fn meet(states: &mut [u32], met: Met, a: Allocation) -> Met
     if at < met.count {
         return met;
     }
-    if at == 200 {
+    if at == STATE_LIMIT {
         return Met {
             count: at,
             over: true,

@@ -11,18 +11,21 @@ use Rattle.convention.specs.declared.Judging.{Judging}
 use Rattle.convention.specs.declared.Judging.the-variants.{Clean}
 use Rattle.convention.specs.Numbers.{stateLimit, judgingSays}
 use Rattle.convention.specs.Bytes.{blocks}
-use Rattle.convention.specs.Fields.{headOf, headNo, shapeNo}
+use Rattle.convention.specs.Layout.{shapeLength, stateLength}
+use Rattle.convention.specs.Fields.{versionOf, headOf, headNo, openingNo, shapeNo, shapeOf, shapeBytes, stateField, stateBytes}
+use Rattle.convention.specs.Shapes.{rightCount, stackBytes}
 use Rattle.convention.specs.Sheets.{startsNo, sheetKindNo, sheetKindOf, sheetKindsNo, sheetKindsOf, sheetKindsLength, sheetNo, sheetOf, mayUseStack, sheetKind}
-use Rattle.convention.specs.Tables.{tableKindOf, tableKindsOf, tableOf}
+use Rattle.convention.specs.Tables.{tableKindsOf, tableOf}
 use Rattle.convention.specs.Offsets.{leastOffset}
 use Rattle.convention.specs.Lists.{faultFrom}
 use Rattle.convention.specs.Rules.{freeRun, markRuns, leftBefore, rulesPlace, rulesAfter}
 use Rattle.convention.specs.Walked.{tableFault, tableAfter}
 use Rattle.convention.specs.Explored.{number, meet, metFrom, through, met}
-use Rattle.convention.specs.Built.{sameFlags, builtTransition, builtRow, builtBody, tableOfStates, builtTable, buildNo, build}
+use Rattle.convention.specs.Built.{sameFlags, builtVersion, builtCell, builtRow, builtBody, tableOfStates, builtTable, buildNo, build}
 use Rattle.convention.specs.Judged.{eachKind, listsOf, listsUpTo, firstFault, verdictByTrying, CleanTable, judgeRoom, judgeNo, Judges}
 use Rattle.convention.specs.Program.{inputLimit, digitsIn, decimal, kindFields, refusedLine, verdictFields, line, Prints}
 use Rattle.convention.proofs.Sheets.{sheet-read}
+use Rattle.convention.proofs.Positions.{length-said}
 use Rattle.building.proofs.Bytes.{built-sheet, built-readable}
 use Rattle.building.proofs.Clean.{clean-if-stack}
 use Rattle.judging.proofs.Unique.{judge-passes}
@@ -37,7 +40,7 @@ module _ (s : List ℕ) (few : length s ≤ inputLimit) (n len : ℕ) (built : b
 
   -- With room for 2N kinds judging refuses nothing.
   judged : (out : List ℕ) → judgeRoom table ≤ length out → judgeNo stateLimit table (length out) ≡ 0
-  judged out room = judge-passes stateLimit table (length out) (built-readable stateLimit s _ n len built (omega arith)) room
+  judged out room = judge-passes stateLimit table (length out) (built-readable stateLimit s _ n len built length-said) room
 
   prints : (verdict : Judging) (before after : List ℕ) → judgeRoom table ≤ length before → Judges stateLimit table before verdict after
       → Prints s (line (Built n len) (sheetOf s .head .kinds) verdict (take (judgingSays verdict .count) after))
@@ -62,12 +65,12 @@ record Builds (s : List ℕ) : Type 0 where
   roomy : judgeRoom (builtTable stateLimit (sheetOf s)) ≤ length room
 
 both-built : Builds simple × Builds stacklessDouble
-unfolding tableOf headOf headNo shapeNo startsNo sheetKindNo sheetKindOf sheetKindsNo sheetKindsOf sheetKindsLength sheetNo sheetOf leastOffset freeRun markRuns leftBefore rulesPlace rulesAfter blocks number meet metFrom through met sameFlags builtTransition builtRow builtBody tableOfStates buildNo build
+unfolding tableOf versionOf headOf headNo openingNo shapeLength stateLength shapeNo shapeOf shapeBytes stateField stateBytes rightCount stackBytes startsNo sheetKindNo sheetKindOf sheetKindsNo sheetKindsOf sheetKindsLength sheetNo sheetOf leastOffset freeRun markRuns leftBefore rulesPlace rulesAfter blocks number meet metFrom through met sameFlags builtVersion builtCell builtRow builtBody tableOfStates buildNo build
 both-built = (record { built = refl; roomy = omega arith }, record { built = refl; roomy = omega arith })
 
 -- Every kind of S may use the stack, so its table is clean.
 simple-stack : (k : ℕ) → k < sheetOf simple .head .kinds → mayUseStack (sheetKind (sheetOf simple) k) ≡ true
-unfolding headOf sheetKindOf sheetKindsOf sheetOf
+unfolding versionOf headOf shapeLength shapeOf sheetKindOf sheetKindsOf sheetOf
 simple-stack zero h = refl
 simple-stack (suc zero) h = refl
 simple-stack (suc (suc zero)) h = refl
@@ -79,7 +82,7 @@ simple-clean =
     clean-if-stack stateLimit (sheetOf simple) (sheet-read simple read) whole simple-stack
 
 pub simple-prints : Prints simple cleanLine
-unfolding Judges digitsIn decimal verdictFields line headOf sheetOf
+unfolding Judges digitsIn decimal verdictFields line versionOf headOf sheetOf
 simple-prints =
     let built = both-built .0 .built in
     let roomy = both-built .0 .roomy in
@@ -87,7 +90,7 @@ simple-prints =
 
 -- The other table's verdict is the first that is found by trying.
 pub stackless-prints : Prints stacklessDouble faultLine
-unfolding tableKindOf tableKindsOf tableOf faultFrom tableFault tableAfter eachKind listsOf listsUpTo firstFault verdictByTrying digitsIn decimal kindFields verdictFields line headOf headNo shapeNo startsNo sheetKindNo sheetKindOf sheetKindsNo sheetKindsOf sheetKindsLength sheetNo sheetOf leastOffset freeRun markRuns leftBefore rulesPlace rulesAfter blocks number meet metFrom through met sameFlags builtTransition builtRow builtBody tableOfStates buildNo build
+unfolding tableKindsOf tableOf faultFrom tableFault tableAfter eachKind listsOf listsUpTo firstFault verdictByTrying digitsIn decimal kindFields verdictFields line versionOf headOf headNo openingNo shapeLength stateLength shapeNo shapeOf shapeBytes stateField stateBytes rightCount stackBytes startsNo sheetKindNo sheetKindOf sheetKindsNo sheetKindsOf sheetKindsLength sheetNo sheetOf leastOffset freeRun markRuns leftBefore rulesPlace rulesAfter blocks number meet metFrom through met sameFlags builtVersion builtCell builtRow builtBody tableOfStates buildNo build
 stackless-prints =
     let built = both-built .1 .built in
     let roomy = both-built .1 .roomy in
@@ -96,7 +99,7 @@ stackless-prints =
 
 -- `00` is refused, and there is nothing to judge.
 pub refused-prints : Prints (0x00 ∷ []) refusedOne
-unfolding sheetNo buildNo build digitsIn decimal refusedLine line
+unfolding openingNo sheetNo buildNo build digitsIn decimal refusedLine line
 refused-prints =
     let none : (n len : ℕ) → Building.Refused 1 ≡ Built n len → ⊥ = λ n len e. let z : _≡_ {A = ℕ} 0 1 = cc in omega arith in
     record {

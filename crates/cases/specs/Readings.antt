@@ -8,8 +8,9 @@ use Rattle.convention.specs.declared.Sheet.{Sheet}
 use Rattle.convention.specs.declared.SheetKind.{SheetKind}
 use Rattle.convention.specs.declared.Table.{Table}
 use Rattle.convention.specs.Numbers.{stateLimit, orElse, unless}
-use Rattle.convention.specs.Fields.{lengthField, kindsAt, versionNo, headOf, headNo, leftOverNo}
-use Rattle.convention.specs.Sheets.{sheetKindsNo, sheetEnd, sheetNo}
+use Rattle.convention.specs.Layout.{lengthBytes, kindsAt}
+use Rattle.convention.specs.Fields.{lengthField, versionOf, versionNo, headOf, headNo, leftOverNo}
+use Rattle.convention.specs.Sheets.{sheetKindsNo, sheetKindAt, sheetNo}
 use Rattle.convention.specs.Tables.{tableOf, tableKind, transition}
 use Rattle.convention.specs.Lists.{Steps}
 use Rattle.convention.specs.Rules.{noRegisters, byRules}
@@ -38,12 +39,12 @@ asDefined = record { number = sheetNo; rules = byRules; table = byTable; hunted 
 
 -- 'Treating a register once skipped as gone although the kind does not close': every kind is read as closing.
 abbrev pub closes : SheetKind → SheetKind
-closes k = record { size = k .size; alignment = k .alignment; flags = k .flags % 2 + 2; tries = k .tries; starts = k .starts }
+closes k = record { shape = k .shape; flags = k .flags % 2 + 2; tries = k .tries; starts = k .starts }
 
 abbrev pub skippedGone : Reader
 skippedGone = record {
   number = sheetNo;
-  rules = λ sheet. byRules (record { head = sheet .head; kinds = map closes (sheet .kinds) });
+  rules = λ sheet. byRules (record { version = sheet .version; head = sheet .head; kinds = map closes (sheet .kinds) });
   table = byTable;
   hunted = judgeRoom;
 }
@@ -85,8 +86,11 @@ alignmentFirst = record {
 abbrev pub lengthOfAll : Reader
 lengthOfAll = record {
   number = λ s.
-      orElse (unless (leb 2 (length s) && eqb (lengthField s) (length s)) 1)
-      (orElse (versionNo s) (orElse (headNo s) (orElse (sheetKindsNo (headOf s) (drop kindsAt s) (headOf s .kinds)) (leftOverNo s (sheetEnd s)))));
+      orElse (unless (leb lengthBytes (length s) && eqb (lengthField s) (length s)) 1)
+      (orElse (versionNo s)
+      (orElse (headNo s)
+      (orElse (sheetKindsNo (versionOf s) (headOf s) (drop kindsAt s) (headOf s .kinds))
+      (leftOverNo s (sheetKindAt (versionOf s) s (headOf s .kinds))))));
   rules = byRules;
   table = byTable;
   hunted = judgeRoom;

@@ -83,6 +83,18 @@ block-at f w (suc n) wide i h = go (eq-or-lt-of-le (le-of-suc-le-suc h)) (block-
           take-append-le w (drop (w * i) (blocks f n)) (f n) (rw (length-drop, len) (omega arith)),
         ) (earlier l)
 
+-- The same where something follows the blocks.
+pub block-in : (f : ℕ → List ℕ) (w n : ℕ) → ((i : ℕ) → i < n → length (f i) ≡ w) → (rest : List ℕ)
+    → (i : ℕ) → i < n → take w (drop (w * i) (blocks f n ++ rest)) ≡ f i
+block-in f w n wide rest i h =
+    let len = length-blocks f w n wide in
+    let room = mul-le-mul-left w h in
+    rw (
+      drop-append-le (w * i) (blocks f n) rest (omega (arith, len)),
+      take-append-le w (drop (w * i) (blocks f n)) rest (rw (length-drop, len) (omega arith)),
+    )
+    (block-at f w n wide i h)
+
 pub getD-block : (f : ℕ → List ℕ) (w n : ℕ) → ((i : ℕ) → i < n → length (f i) ≡ w)
     → (i j d : ℕ) → i < n → j < w → getD (blocks f n) (w * i + j) d ≡ getD (f i) j d
 getD-block f w n wide i j d h k = rw (← block-at f w n wide i h, getD-take, getD-drop)

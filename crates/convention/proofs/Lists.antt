@@ -2,19 +2,18 @@
 use Prim.Native.Nat.{ℕ, zero, suc, _+_, _*_, _≤_, _<_}
 use mathlib.Core.Path.{_≡_, refl, sym, ap}
 use mathlib.Core.Logic.{inl, inr}
-use mathlib.Core.List.{List, [], _∷_, _++_, append-assoc}
+use mathlib.Core.List.{List, [], _∷_, _++_}
 use native.Mathlib.Nat.{suc-pred-eq-of-pos, le-of-suc-le-suc, eq-zero-or-pos, zero-add}
 use native.Mathlib.Decide.{decLt}
 use native.Mathlib.Numerals.{add-one}
 use native.Mathlib.Omega.{arith}
-use lib.ListN.{length, getD, take, drop, length-append, drop-of-length-le}
-use lib.Seq.{drop-cons, drop-drop, take-at, drop-at}
+use lib.ListN.{length, getD, take, drop, drop-of-length-le}
+use lib.Seq.{drop-cons, drop-drop}
 use borrow.Author.Tests.{lt-ltb, le-ltb}
 use Rattle.convention.specs.declared.Placement.{Placement}
-use Rattle.convention.specs.declared.Placement.the-variants.{Registers, Stack, Nowhere}
+use Rattle.convention.specs.declared.Placement.the-variants.{Nowhere}
 use Rattle.convention.specs.Numbers.{orElse}
-use Rattle.convention.specs.Lists.{Steps, faultFrom, stopFrom, stateFrom, placesFrom, recordOf, recordsOf, unknownAt}
-use Rattle.convention.specs.Judged.{KindsBelow}
+use Rattle.convention.specs.Lists.{Steps, faultFrom, stopFrom, stateFrom, placesFrom, recordOf, recordsOf, unknownAt, KindsBelow}
 use Rattle.convention.proofs.Numbers.{or-zero, or-here, or-assoc, or-keeps}
 
 -- What is left of a list at a position of it.
@@ -118,26 +117,20 @@ module _ (M : Steps) where
   places-length s [] = refl
   places-length s (k ∷ ks) = ap suc (places-length (M .after s k) ks)
 
-pub record-length : (place : Placement) → length (recordOf place) ≡ 6
-record-length (Registers first count) = refl
-record-length (Stack offset count) = refl
-record-length Nowhere = refl
-
 pub records-length : (places : List Placement) → length (recordsOf places) ≡ 6 * length places
 unfolding recordsOf
 records-length [] = refl
-records-length (place ∷ places) = rw (length-append, record-length, records-length places) (omega arith)
+records-length (place ∷ places) = rw (records-length places) (omega arith)
 
 -- The record of place i stands behind those of the places before it.
 pub record-at : (places : List Placement) (others : List ℕ) (i : ℕ) → i < length places
     → take 6 (drop (6 * i) (recordsOf places ++ others)) ≡ recordOf (getD places i Nowhere)
 unfolding recordsOf
 record-at [] others i h = absurd (omega arith)
-record-at (place ∷ places) others zero h = rw append-assoc (take-at (recordOf place) _ 6 (record-length place))
+record-at (place ∷ places) others zero h = refl
 record-at (place ∷ places) others (suc i) h =
     let more : 6 * suc i ≡ 6 + 6 * i = omega arith in
-    rw (more, append-assoc, ← drop-drop (6 * i) 6 (recordOf place ++ (recordsOf places ++ others)), drop-at (recordOf place) _ 6 (record-length place))
-    (record-at places others i (le-of-suc-le-suc h))
+    rw (more, ← drop-drop (6 * i) 6 (recordOf place ++ (recordsOf places ++ others))) (record-at places others i (le-of-suc-le-suc h))
 
 -- Looking for a kind of m or more, from position i on: nothing is left; kind i is known; kind i is not.
 module _ (m : ℕ) (ks : List ℕ) (i : ℕ) where
@@ -188,5 +181,18 @@ unfolding KindsBelow
 at-below m [] each = tt
 at-below m (k ∷ ks) each = (each 0 (omega arith), at-below m ks (λ i h. each (suc i) (omega arith)))
 
+-- A list of known kinds stays one where a known kind is appended, and so do its fronts.
+pub below-snoc : (m : ℕ) (ks : List ℕ) (k : ℕ) → KindsBelow m ks → k < m → KindsBelow m (ks ++ k ∷ [])
+unfolding KindsBelow
+below-snoc m [] k known below = (below, tt)
+below-snoc m (j ∷ ks) k known below = (known .0, below-snoc m ks k (known .1) below)
+
+pub below-take : (m n : ℕ) (ks : List ℕ) → KindsBelow m ks → KindsBelow m (take n ks)
+unfolding KindsBelow
+below-take m zero ks known = tt
+below-take m (suc n) [] known = tt
+below-take m (suc n) (k ∷ ks) known = (known .0, below-take m n ks (known .1))
+
+-- The kind at a position of a list of known kinds.
 pub known : (m : ℕ) (ks : List ℕ) → unknownAt m ks ≡ length ks → (i : ℕ) → i < length ks → getD ks i 0 < m
 known m ks e = below-at m ks (known-below m ks e)

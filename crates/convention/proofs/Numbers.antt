@@ -1,17 +1,17 @@
 -- Laws of answer numbers: what a chain of tests, one test and one field tell of a number, and what a number tells of them.
-use Prim.Native.Nat.{ℕ, zero, suc, _<_}
+use Prim.Native.Nat.{ℕ, zero, suc, _+_, _≤_, _<_}
 use mathlib.Core.Path.{_≡_, refl, sym, _∙_}
 use mathlib.Core.Logic.{_↔_}
 use mathlib.Core.Bool.{Bool, true, false, true≢false}
 use mathlib.Core.List.{List}
 use native.Mathlib.Nat.{suc-ne-zero}
 use native.Mathlib.Omega.{arith}
-use lib.Dec.{ltb}
+use lib.Dec.{leb}
 use lib.ListN.{length}
-use borrow.Author.Tests.{ltb-true, lt-ltb}
+use borrow.Author.Tests.{leb-true, le-leb, lt-leb}
 use Rattle.convention.specs.declared.Reading.{Reading}
 use Rattle.convention.specs.Numbers.{orElse, unless, reading, readingNo}
-use Rattle.convention.specs.Fields.{fieldNo}
+use Rattle.convention.specs.Fields.{partNo, fieldNo}
 
 -- Two tests in order: no number is given exactly where both pass; the first that fails gives the number.
 pub or-zero : (a b : ℕ) → orElse a b ≡ 0 → (a ≡ 0) × (b ≡ 0)
@@ -62,15 +62,31 @@ pub unless-here : (b : Bool) (n : ℕ) → 0 < n → unless b n ≡ n ↔ b ≡ 
 unless-here true n h = (λ e. absurd (omega arith), λ e. absurd (true≢false e))
 unless-here false n h = (λ _. refl, λ _. refl)
 
--- One field: 3 where its byte is missing, else what the test of its value gives.
-pub field-zero : (s : List ℕ) (k : ℕ) (right : Bool) (wrong : ℕ) → 0 < wrong → fieldNo s k right wrong ≡ 0
-    → (k < length s) × (right ≡ true)
-field-zero s k right wrong h e =
-    let both = or-zero (unless (ltb k (length s)) 3) (unless right wrong) e in
-    (ltb-true k (length s) (unless-zero (ltb k (length s)) 3 (omega arith) (both .0)), unless-zero right wrong h (both .1))
+-- A part of the bytes: 3 where it is missing, else what the test of its value gives; and so a field.
+module _ (s : List ℕ) (at long : ℕ) (right : Bool) (wrong : ℕ) where
+  pub part-zero : 0 < wrong → partNo s at long right wrong ≡ 0 → (at + long ≤ length s) × (right ≡ true)
+  part-zero h e =
+      let both = or-zero (unless (leb (at + long) (length s)) 3) (unless right wrong) e in
+      (leb-true _ _ (unless-zero _ 3 (omega arith) (both .0)), unless-zero right wrong h (both .1))
 
-pub field-here : (s : List ℕ) (k : ℕ) (right : Bool) (wrong : ℕ) → k < length s → fieldNo s k right wrong ≡ unless right wrong
-field-here s k right wrong h = rw (lt-ltb k (length s) h)
+  pub part-here : at + long ≤ length s → partNo s at long right wrong ≡ unless right wrong
+  part-here h = rw (le-leb _ _ h)
+
+  pub part-pass : at + long ≤ length s → right ≡ true → partNo s at long right wrong ≡ 0
+  part-pass h e = part-here h ∙ unless-true right wrong e
+
+pub byte-there : (at n : ℕ) → at < n → leb (at + 1) n ≡ true
+byte-there at n h = le-leb (at + 1) n (omega arith)
+
+pub byte-missing : (at n : ℕ) → n ≤ at → leb (at + 1) n ≡ false
+byte-missing at n h = lt-leb (at + 1) n (omega arith)
+
+module _ (s : List ℕ) (at : ℕ) (right : Bool) (wrong : ℕ) where
+  pub field-zero : 0 < wrong → fieldNo s at right wrong ≡ 0 → (at < length s) × (right ≡ true)
+  field-zero h e = let part = part-zero s at 1 right wrong h e in (omega (arith, part .0), part .1)
+
+  pub field-pass : at < length s → right ≡ true → fieldNo s at right wrong ≡ 0
+  field-pass h e = part-pass s at 1 right wrong (omega arith) e
 
 -- An answer of reading carries the number that it was made from.
 pub reading-no : (n : ℕ) → readingNo (reading n) ≡ n

@@ -1,4 +1,4 @@
--- Laws of the least offset, for every modulus at once; of the widths and moduli that a head may have; and of the registers that a size needs.
+-- Laws of the least offset, for every modulus at once; and of the widths and moduli that a head may have.
 use Prim.Native.Nat.{ℕ, _+_, _-_, _*_, _/_, _%_, _≤_, _<_, _∣_}
 use mathlib.Core.Path.{_≡_, refl, sym, subst, _∙_}
 use mathlib.Core.Bool.{Bool, true, false, not, _&&_, _||_, and-eq-true-iff}
@@ -10,7 +10,6 @@ use lib.Dec.{ltb, leb, eqb}
 use borrow.Author.Tests.{ltb-true, leb-true, le-leb, eqb-true}
 use Rattle.convention.specs.Fields.{isWidth, isModulus}
 use Rattle.convention.specs.Offsets.{IsLeast, leastOffset}
-use Rattle.convention.specs.Sheets.{registersNeeded}
 
 -- What has x's remainder and is below x + m is at most x.
 near : (m x y : ℕ) → x % m ≡ y % m → y < x + m → y ≤ x
@@ -119,11 +118,3 @@ divides a b ha hb h =
   where
     test : ℕ → ℕ → Bool
     test k l = not (leb k l) || eqb (l % k) 0
-
--- The registers needed have room for the size.
-pub needed-room : (w size : ℕ) → 0 < w → size ≤ registersNeeded w size * w
-needed-room w size h = omega (arith, lt-div-mul-add {a = size + w - 1} h)
-
--- They are no more than the size's bytes, and so than any bound of the size.
-pub needed-most : (w size n : ℕ) → 0 < w → size ≤ n → registersNeeded w size ≤ n
-needed-most w size n h l = le-of-suc-le-suc (div-lt-iff-lt-mul h .1 (omega (arith, le-mul-of-pos-right n h)))

@@ -4,24 +4,26 @@ use mathlib.Core.Path.{_≡_, refl, _∙_}
 use mathlib.Core.Logic.{inl, inr}
 use mathlib.Core.Bool.{Bool, true, _&&_, cond, and-eq-true-iff}
 use mathlib.Core.List.{List, []}
-use native.Mathlib.Nat.{mul-assoc, mul-le-mul-left, le-refl, eq-zero-or-pos}
+use native.Mathlib.Nat.{mul-zero, mul-assoc, mul-le-mul-left, le-refl, eq-zero-or-pos, mul-pos}
 use native.Mathlib.Omega.{arith}
 use lib.Dec.{ltb, leb, eqb, lit<}
 use lib.ListN.{length, getD, take, drop, length-take, length-drop, List·getD-append}
 use borrow.Author.Tests.{ltb-true, leb-true, eqb-true, ne-eqb}
 use Rattle.convention.specs.declared.Head.{Head}
-use Rattle.convention.specs.declared.TableKind.{TableKind}
+use Rattle.convention.specs.declared.Shape.{Shape}
 use Rattle.convention.specs.declared.Transition.{Transition}
 use Rattle.convention.specs.declared.Reading.{Reading}
 use Rattle.convention.specs.declared.TableAnswer.{TableAnswer}
 use Rattle.convention.specs.Numbers.{reading}
-use Rattle.convention.specs.Fields.{kindsAt, headOf, headNo, openingNo, shapeNo}
-use Rattle.convention.specs.Tables.{tableKindLength, tableKindOf, tableKindsNo, tableKindsOf, statesAt, statesOf, statesNo}
-use Rattle.convention.specs.Tables.{transitionOf, isTransition, transitionNo, transitionsNo, rowsAt, rowLength, rowAt}
-use Rattle.convention.specs.Tables.{tableNo, blankTableKind, tableOf, readTable, rowNo, rowGiven, row, startGiven, rowStart}
+use Rattle.convention.specs.Layout.{kindsAt, shapeLength, statesAt, stateLength, rowsAt, transitionLength, rowLength, rowAt, transitionAt, tableLength}
+use Rattle.convention.specs.Fields.{versionOf, isVersion, headOf, headNo, openingNo, shapeNo, shapeOf}
+use Rattle.convention.specs.Sheets.{blankShape}
+use Rattle.convention.specs.Tables.{tableKindsNo, tableKindsOf, statesOf, statesNo, transitionOf, isTransition, transitionNo, transitionsNo}
+use Rattle.convention.specs.Tables.{tableNo, tableOf, readTable, rowNo, rowGiven, row, startGiven, rowStart}
 use Rattle.convention.specs.Promised.{ShapeRead, TableRead}
-use Rattle.convention.proofs.Numbers.{or-zero, unless-zero, field-zero, read-number, refused-number, refused-some}
-use Rattle.convention.proofs.Sheets.{fields-zero, behind-count, behind-at, behind-read, filled-length, head-read, opening-head, shape-read}
+use Rattle.convention.proofs.Numbers.{or-zero, unless-zero, part-zero, read-number, refused-number, refused-some}
+use Rattle.convention.proofs.Fields.{fields-zero, after-count, after-at, after-read, filled-length, head-read, opening-head, opening-version, shape-read}
+use Rattle.convention.proofs.Positions.{row-inside, transition-counted}
 
 -- The part of a transition's test that speaks of its place.
 abbrev placeRight : Head → Transition → Bool
@@ -52,61 +54,67 @@ module _ (h : Head) (states : ℕ) (x : Transition) (e : isTransition h states x
       ]
 
 -- The kinds: how many, and each with its values.
-pub table-kinds-count : (s : List ℕ) (left : ℕ) → length (tableKindsOf s left) ≡ left
+pub table-kinds-count : (v : ℕ) (s : List ℕ) (left : ℕ) → length (tableKindsOf v s left) ≡ left
 unfolding tableKindsOf
-table-kinds-count = behind-count (λ s. tableKindLength) tableKindOf tableKindsOf (λ s. refl) (λ s left. refl)
+table-kinds-count v = after-count (λ s. shapeLength v) (shapeOf v) (tableKindsOf v) (λ s. refl) (λ s left. refl)
 
 -- Kind k is read from where k kinds end.
-pub table-kind-at : (s : List ℕ) (left k : ℕ) (d : TableKind) → k < left
-    → getD (tableKindsOf s left) k d ≡ tableKindOf (drop (tableKindLength * k) s)
+pub table-kind-at : (v : ℕ) (s : List ℕ) (left k : ℕ) (d : Shape) → k < left → getD (tableKindsOf v s left) k d ≡ shapeOf v (drop (shapeLength v * k) s)
 unfolding tableKindsOf
-table-kind-at =
-    behind-at (λ s. tableKindLength) tableKindOf tableKindsOf (λ s. refl) (λ s left. refl)
-    (λ s k. tableKindLength * k) (λ s. refl) (λ s k. omega arith)
+table-kind-at v =
+    after-at (λ s. shapeLength v) (shapeOf v) (tableKindsOf v) (λ s. refl) (λ s left. refl)
+    (λ s k. shapeLength v * k) (λ s. mul-zero (shapeLength v)) (λ s k. omega arith)
 
-pub table-kinds-read : (h : Head) (s : List ℕ) (left : ℕ) → tableKindsNo h s left ≡ 0
-    → (i : ℕ) → i < left → (d : TableKind)
-    → ShapeRead h (getD (tableKindsOf s left) i d .size) (getD (tableKindsOf s left) i d .alignment)
-unfolding tableKindsNo tableKindsOf tableKindOf
-table-kinds-read h =
-    behind-read (λ s. tableKindLength) tableKindOf tableKindsOf (λ s. refl) (λ s left. refl)
-    (shapeNo h) (tableKindsNo h) (λ s left. refl) (λ kind. ShapeRead h (kind .size) (kind .alignment)) (shape-read h)
+table-kinds-read : (v : ℕ) (h : Head) (s : List ℕ) (left : ℕ) → tableKindsNo v h s left ≡ 0
+    → (i : ℕ) → i < left → (d : Shape) → ShapeRead h (getD (tableKindsOf v s left) i d)
+unfolding tableKindsNo tableKindsOf
+table-kinds-read v h =
+    after-read (λ s. shapeLength v) (shapeOf v) (tableKindsOf v) (λ s. refl) (λ s left. refl)
+    (shapeNo v h) (tableKindsNo v h) (λ s left. refl) (ShapeRead h) (shape-read v h)
 
 -- The transitions: each is there and as 01 allows it; and so the last one's end is within the bytes.
-pub transitions-read : (h : Head) (states : ℕ) (t : List ℕ) (at left : ℕ) → transitionsNo h states t at left ≡ 0
-    → (i : ℕ) → i < left → (at + 4 * i + 4 ≤ length t) × (isTransition h states (transitionOf t (at + 4 * i)) ≡ true)
+transitions-read : (v : ℕ) (h : Head) (states : ℕ) (t : List ℕ) (at left : ℕ) → transitionsNo v h states t at left ≡ 0
+    → (i : ℕ) → i < left
+    → (at + transitionLength v * i + transitionLength v ≤ length t) × (isTransition h states (transitionOf v t (at + transitionLength v * i)) ≡ true)
 unfolding transitionsNo transitionNo
-transitions-read h states t at left e i l =
-    let passed = fields-zero 4 (transitionNo h states t) (transitionsNo h states t) (λ at left. refl) at left e i l in
-    let both = or-zero _ _ passed in
-    (leb-true _ _ (unless-zero _ 3 (lit< tt) (both .0)), unless-zero _ 7 (lit< tt) (both .1))
+transitions-read v h states t at left e i l =
+    part-zero t _ (transitionLength v) _ 7 (lit< tt)
+    (fields-zero (transitionLength v) (transitionNo v h states t) (transitionsNo v h states t) (λ at left. refl) at left e i l)
 
-pub transitions-end : (h : Head) (states : ℕ) (t : List ℕ) (at left : ℕ) → transitionsNo h states t at left ≡ 0
-    → at ≤ length t → at + 4 * left ≤ length t
-transitions-end h states t at zero e l = omega arith
-transitions-end h states t at (suc left) e l = omega (arith, transitions-read h states t at (suc left) e left (le-refl (suc left)) .0)
+transitions-end : (v : ℕ) (h : Head) (states : ℕ) (t : List ℕ) (at left : ℕ) → transitionsNo v h states t at left ≡ 0
+    → at ≤ length t → at + transitionLength v * left ≤ length t
+transitions-end v h states t at zero e l = omega arith
+transitions-end v h states t at (suc left) e l = omega (arith, transitions-read v h states t at (suc left) e left (le-refl (suc left)) .0)
 
 -- What a table's tests say, one by one.
 record TableTests (limit : ℕ) (t : List ℕ) : Type 0 where
+  version : isVersion (versionOf t) ≡ true
   head : headNo t ≡ 0
-  kinds : tableKindsNo (headOf t) (drop kindsAt t) (headOf t .kinds) ≡ 0
-  there : statesAt (headOf t .kinds) < length t
+  kinds : tableKindsNo (versionOf t) (headOf t) (drop kindsAt t) (headOf t .kinds) ≡ 0
+  there : rowsAt (versionOf t) (headOf t) ≤ length t
   some : 1 ≤ statesOf t
   states : statesOf t ≤ limit
-  transitions : transitionsNo (headOf t) (statesOf t) t (rowsAt (headOf t .kinds)) (headOf t .kinds * statesOf t) ≡ 0
-  end : length t ≤ rowAt (headOf t .kinds) (statesOf t)
+  transitions : transitionsNo (versionOf t) (headOf t) (statesOf t) t (rowsAt (versionOf t) (headOf t)) (headOf t .kinds * statesOf t) ≡ 0
+  end : length t ≤ tableLength (versionOf t) (headOf t) (statesOf t)
 
 module _ (limit : ℕ) (t : List ℕ) (e : tableNo limit t ≡ 0) where
+  abbrev v : ℕ
+  v = versionOf t
+
+  abbrev h : Head
+  h = headOf t
+
   table-tests : TableTests limit t
   unfolding tableNo
   table-tests =
       let a = or-zero (openingNo t) _ e in
-      let b = or-zero (tableKindsNo (headOf t) (drop kindsAt t) (headOf t .kinds)) _ (a .1) in
+      let b = or-zero (tableKindsNo v h (drop kindsAt t) (h .kinds)) _ (a .1) in
       let c = or-zero (statesNo limit t) _ (b .1) in
-      let d = or-zero (transitionsNo (headOf t) (statesOf t) t (rowsAt (headOf t .kinds)) (headOf t .kinds * statesOf t)) _ (c .1) in
-      let field = field-zero t (statesAt (headOf t .kinds)) _ 4 (lit< tt) (c .0) in
+      let d = or-zero (transitionsNo v h (statesOf t) t (rowsAt v h) (h .kinds * statesOf t)) _ (c .1) in
+      let field = part-zero t (statesAt v h) (stateLength v) _ 4 (lit< tt) (c .0) in
       let states = and-eq-true-iff _ _ .0 (field .1) in
       record {
+        version = opening-version t (a .0);
         head = opening-head t (a .0);
         kinds = b .0;
         there = field .0;
@@ -117,36 +125,33 @@ module _ (limit : ℕ) (t : List ℕ) (e : tableNo limit t ≡ 0) where
       }
 
   -- Its bytes end where its last row does.
-  table-whole : length t ≡ rowAt (headOf t .kinds) (statesOf t)
+  table-whole : length t ≡ tableLength v h (statesOf t)
   table-whole =
-      let m = headOf t .kinds in
-      let first : rowsAt m ≤ length t = omega (arith, table-tests .there) in
-      let rows = transitions-end (headOf t) (statesOf t) t (rowsAt m) (m * statesOf t) (table-tests .transitions) first in
-      omega (arith, table-tests .end, rows, mul-assoc 4 m (statesOf t))
+      let rows = transitions-end v h (statesOf t) t (rowsAt v h) (h .kinds * statesOf t) (table-tests .transitions) (table-tests .there) in
+      omega (arith, table-tests .end, rows, mul-assoc (transitionLength v) (h .kinds) (statesOf t))
 
   -- Transition k of row `state` is number m * state + k of all.
-  table-transition : (state k : ℕ) → state < statesOf t → k < headOf t .kinds
-      → isTransition (headOf t) (statesOf t) (transitionOf t (rowAt (headOf t .kinds) state + 4 * k)) ≡ true
+  table-transition : (state k : ℕ) → state < statesOf t → k < h .kinds
+      → isTransition h (statesOf t) (transitionOf v t (transitionAt v h state k)) ≡ true
   table-transition state k l below =
-      let m = headOf t .kinds in
-      let place : rowsAt m + 4 * (m * state + k) ≡ rowAt m state + 4 * k = omega (arith, mul-assoc 4 m state) in
-      let within : m * state + k < m * statesOf t = omega (arith, mul-le-mul-left m l) in
-      let each = transitions-read (headOf t) (statesOf t) t (rowsAt m) (m * statesOf t) (table-tests .transitions) in
-      rw place at (each (m * state + k) within .1)
+      let within : h .kinds * state + k < h .kinds * statesOf t = omega (arith, mul-le-mul-left (h .kinds) l) in
+      let each = transitions-read v h (statesOf t) t (rowsAt v h) (h .kinds * statesOf t) (table-tests .transitions) in
+      rw (transition-counted v h state k) at (each (h .kinds * state + k) within .1)
 
   -- The table has the values that 01 allows.
   pub table-read : TableRead limit (tableOf t) t
   unfolding tableOf
   table-read =
       let head = head-read t (table-tests .head) in
-      let kinds = tableKindsOf (drop kindsAt t) (headOf t .kinds) in
-      let count = table-kinds-count (drop kindsAt t) (headOf t .kinds) in
+      let kinds = tableKindsOf v (drop kindsAt t) (h .kinds) in
+      let count = table-kinds-count v (drop kindsAt t) (h .kinds) in
       record {
+        version = table-tests .version;
         head = head;
-        eight = filled-length kinds (headOf t .kinds) 8 blankTableKind count (head .kinds);
+        eight = filled-length kinds (h .kinds) 8 blankShape count (head .kinds);
         kind = λ k l.
             rw (List·getD-append kinds _ _ k (omega (arith, count)))
-            (table-kinds-read (headOf t) (drop kindsAt t) (headOf t .kinds) (table-tests .kinds) k l _);
+            (table-kinds-read v h (drop kindsAt t) (h .kinds) (table-tests .kinds) k l _);
         some = table-tests .some;
         states = table-tests .states;
         whole = table-whole;
@@ -191,20 +196,22 @@ module _ (limit : ℕ) (t : List ℕ) (state : ℕ) (e : rowNo limit t state ≡
       let both = or-zero (tableNo limit t) _ e in
       (both .0, ltb-true state (statesOf t) (unless-zero _ 13 (lit< tt) (both .1)))
 
-  -- A row that is given: it lies within the table's bytes, has four bytes a kind, and is not empty.
-  pub row-part : rowAt (headOf t .kinds) state + rowLength (headOf t .kinds) ≤ length t
-  row-part = omega (arith, table-whole limit t (row-tests .0), mul-le-mul-left (rowLength (headOf t .kinds)) (row-tests .1))
+  -- A row that is given: it lies within the table's bytes, and is not empty.
+  pub row-part : rowAt (versionOf t) (headOf t) state + rowLength (versionOf t) (headOf t) ≤ length t
+  row-part = rw (table-whole limit t (row-tests .0)) (row-inside (versionOf t) (headOf t) (statesOf t) state (row-tests .1))
 
-  pub row-is : row limit t state ≡ take (rowLength (headOf t .kinds)) (drop (rowAt (headOf t .kinds) state) t)
+  pub row-is : row limit t state ≡ take (rowLength (versionOf t) (headOf t)) (drop (rowAt (versionOf t) (headOf t) state) t)
   unfolding row
   row-is = rw e
 
-  pub row-start : rowStart limit t state ≡ rowAt (headOf t .kinds) state
+  pub row-start : rowStart limit t state ≡ rowAt (versionOf t) (headOf t) state
   unfolding rowStart
   row-start = rw e
 
-  pub row-length : length (row limit t state) ≡ 4 * headOf t .kinds
+  pub row-length : length (row limit t state) ≡ rowLength (versionOf t) (headOf t)
   row-length = rw (row-is, length-take, length-drop) (omega (arith, row-part))
 
   pub row-some : 0 < length (row limit t state)
-  row-some = omega (arith, row-length, head-read t (table-tests limit t (row-tests .0) .head) .some)
+  row-some =
+      let wide : 0 < transitionLength (versionOf t) = omega arith in
+      rw row-length (mul-pos wide (head-read t (table-tests limit t (row-tests .0) .head) .some))

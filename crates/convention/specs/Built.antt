@@ -1,19 +1,25 @@
 -- Document 01, 'The built table'.
 use Prim.Native.Nat.{ℕ, zero, suc, _+_, _%_}
-use mathlib.Core.Bool.{Bool, true, false, _&&_, Bool·beq}
+use mathlib.Core.Bool.{Bool, true, false, cond, _&&_, Bool·beq}
 use mathlib.Core.List.{List, [], _∷_, _++_}
 use lib.Dec.{leb, eqb}
 use lib.ListN.{length, drop}
 use Rattle.convention.specs.declared.Placement.{Placement}
-use Rattle.convention.specs.declared.Placement.the-variants.{Registers, Stack, Nowhere}
+use Rattle.convention.specs.declared.Transition.{Transition}
+use Rattle.convention.specs.declared.Spelling.{Spelling}
 use Rattle.convention.specs.declared.Sheet.{Sheet}
+use Rattle.convention.specs.declared.Transition.{Transition}
 use Rattle.convention.specs.declared.Allocation.{Allocation}
 use Rattle.convention.specs.declared.ByRules.{ByRules}
 use Rattle.convention.specs.declared.Building.{Building}
 use Rattle.convention.specs.declared.Building.the-variants.{Built}
 use Rattle.convention.specs.Numbers.{orElse, unless}
 use Rattle.convention.specs.Bytes.{twoBytes, blocks}
+use Rattle.convention.specs.Layout.{longestTable}
+use Rattle.convention.specs.Fields.{shapeBytes, stateBytes}
 use Rattle.convention.specs.Sheets.{sheetKind, sheetNo, sheetOf}
+use Rattle.convention.specs.Tables.{transitionBytes}
+use Rattle.convention.specs.Lists.{spelled}
 use Rattle.convention.specs.Rules.{noRegisters, byRules}
 use Rattle.convention.specs.Explored.{Automaton, Entry, entry, number, met}
 
@@ -46,30 +52,48 @@ allocations sheet = record {
   next = λ a k. allocation (sheet .head .modulus) (byRules sheet .after (fromAllocation a) k);
 }
 
--- A transition's bytes: form, a, b, next. On the stack a is the residue, the offset's remainder by A.
-abbrev pub transitionBytes : ℕ → Placement → ℕ → List ℕ
-transitionBytes modulus (Registers first count) next = 1 ∷ first .0 ∷ count ∷ next ∷ []
-transitionBytes modulus (Stack offset count) next = 2 ∷ offset .0 % modulus ∷ count ∷ next ∷ []
-transitionBytes modulus Nowhere next = 0 ∷ 0 ∷ 0 ∷ 0 ∷ []
+-- 'form 2, stack: a is the residue', the offset's remainder by A; otherwise it is the number as it stands.
+abbrev pub fieldA : ℕ → Spelling → ℕ
+fieldA modulus told = cond (eqb (told .form) 2) (told .number % modulus) (told .number)
+
+-- The transition made of a place and the next state's number. 'form 0, no place: a, b and next are 0.'
+abbrev pub made : ℕ → Placement → ℕ → Transition
+made modulus place next = record {
+  form = spelled place .form;
+  a = fieldA modulus (spelled place);
+  b = spelled place .count;
+  next = unless (eqb (spelled place .form) 0) next;
+}
 
 -- Where kind k goes from an allocation state; l holds the states met.
-unfoldable pub builtTransition : (sheet : Sheet) → List (Entry (allocations sheet)) → Allocation → ℕ → List ℕ
+abbrev pub builtTransition : (sheet : Sheet) → List (Entry (allocations sheet)) → Allocation → ℕ → Transition
 builtTransition sheet l a k =
-    transitionBytes (sheet .head .modulus) (byRules sheet .place (fromAllocation a) k) (number (allocations sheet) l (allocations sheet .next a k))
+    made (sheet .head .modulus) (byRules sheet .place (fromAllocation a) k) (number (allocations sheet) l (allocations sheet .next a k))
+
+-- 'one version byte, 1'.
+unfoldable pub builtVersion : Sheet → ℕ
+builtVersion sheet = 1
+
+-- The most bytes of a built table.
+abbrev pub builtMost : ℕ → ℕ
+builtMost limit = longestTable 1 limit
 
 -- 'for each state a row of m transitions', in the order of numbers and of kinds.
+unfoldable pub builtCell : (sheet : Sheet) → List (Entry (allocations sheet)) → Allocation → ℕ → List ℕ
+builtCell sheet l a k = transitionBytes (builtVersion sheet) (builtTransition sheet l a k)
+
 unfoldable pub builtRow : (sheet : Sheet) → List (Entry (allocations sheet)) → ℕ → List ℕ
-builtRow sheet l i = blocks (builtTransition sheet l (entry (allocations sheet) l i .node)) (sheet .head .kinds)
+builtRow sheet l i = blocks (builtCell sheet l (entry (allocations sheet) l i .node)) (sheet .head .kinds)
 
 -- 'The kinds' sizes and alignments are copied.'
 abbrev pub builtKind : Sheet → ℕ → List ℕ
-builtKind sheet k = sheetKind sheet k .size ∷ sheetKind sheet k .alignment ∷ []
+builtKind sheet k = shapeBytes (builtVersion sheet) (sheetKind sheet k .shape)
 
 -- What follows the length: version, head, kinds, N, rows.
 unfoldable pub builtBody : (sheet : Sheet) → List (Entry (allocations sheet)) → List ℕ
 builtBody sheet l =
-    1 ∷ sheet .head .registers ∷ sheet .head .width ∷ sheet .head .modulus ∷ sheet .head .kinds
-    ∷ (blocks (builtKind sheet) (sheet .head .kinds) ++ (length l ∷ blocks (builtRow sheet l) (length l)))
+    builtVersion sheet ∷ sheet .head .registers ∷ sheet .head .width ∷ sheet .head .modulus ∷ sheet .head .kinds
+    ∷ (blocks (builtKind sheet) (sheet .head .kinds) ++ (stateBytes (builtVersion sheet) (length l) ++ blocks (builtRow sheet l) (length l)))
 
 -- The table whose states are the entries of l.
 abbrev pub behindLength : List ℕ → List ℕ

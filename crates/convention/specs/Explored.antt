@@ -3,7 +3,7 @@ use Prim.Native.Nat.{ℕ, zero, suc, _<_}
 use mathlib.Core.Path.{_≡_}
 use mathlib.Core.Bool.{Bool, true, false}
 use mathlib.Core.List.{List, [], _∷_, _++_}
-use lib.Dec.{ltb}
+use lib.Dec.{ltb, eqb}
 use lib.ListN.{length, getD}
 
 -- What is explored: nodes that can be told apart, the first, the number of kinds, and whether and where each kind leads from a node.
@@ -14,6 +14,15 @@ pub record Automaton : Type 1 where
   pub kinds : ℕ
   pub goes : Node → ℕ → Bool
   pub next : Node → ℕ → Node
+
+-- What is explored where the nodes are numbers: node 0 is the first.
+pub record Numbered : Type 0 where
+  pub kinds : ℕ
+  pub goes : ℕ → ℕ → Bool
+  pub next : ℕ → ℕ → ℕ
+
+abbrev pub numbered : Numbered → Automaton
+numbered N = record { Node = ℕ; same = eqb; start = 0; kinds = N .kinds; goes = N .goes; next = N .next }
 
 -- One node met: from which entry, and by which kind.
 pub record Entry (X : Automaton) : Type 0 where
@@ -52,6 +61,10 @@ through X l i = elim (ltb i (length l)) [ true ↦ metFrom X l (entry X l i .nod
 unfoldable pub met : (X : Automaton) → ℕ → List (Entry X)
 met X zero = firstEntry X ∷ []
 met X (suc i) = through X (met X i) i
+
+-- The entries as the scan comes to entry i and its kind k.
+abbrev pub metUpTo : (X : Automaton) → ℕ → ℕ → List (Entry X)
+metUpTo X i k = metFrom X (met X i) (entry X (met X i) i .node) i k
 
 -- The kinds by which entry i was first met, from the start on: those of its parent, then its own. A parent's number is lower, so i turns are enough.
 unfoldable pub pathFrom : (X : Automaton) → List (Entry X) → ℕ → ℕ → List ℕ

@@ -1,15 +1,21 @@
--- Document 01, 'Bytes of a sheet and of a table': what both have, which is the length, the version, the head, and a kind's size and alignment.
+-- Document 01, 'Bytes of a sheet and of a table': what both have, which is the length, the version, the head, a kind's shape and the number of a state.
 use Prim.Native.Nat.{ℕ, _+_, _-_, _*_}
 use mathlib.Core.Bool.{Bool, _&&_, _||_}
-use mathlib.Core.List.{List}
-use lib.Dec.{ltb, leb, eqb}
+use mathlib.Core.List.{List, [], _∷_}
+use lib.Dec.{leb, eqb}
 use lib.ListN.{length, getD}
 use Rattle.convention.specs.declared.Head.{Head}
+use Rattle.convention.specs.declared.Shape.{Shape}
 use Rattle.convention.specs.Numbers.{orElse, unless}
+use Rattle.convention.specs.Layout.{lengthBytes, versionAt, registersAt, widthAt, modulusAt, kindsCountAt, sizeAt, alignmentAt}
 
--- 'a missing byte gives 3, and a wrong value gives its number as soon as its field is read': the field at k, whose value is right or not.
+-- 'a missing byte gives 3, and a wrong value gives its number as soon as its field is read': `long` bytes from byte `at` on, whose value is right or not.
+abbrev pub partNo : List ℕ → ℕ → ℕ → Bool → ℕ → ℕ
+partNo s at long right wrong = orElse (unless (leb (at + long) (length s)) 3) (unless right wrong)
+
+-- The same of a field of one byte.
 abbrev pub fieldNo : List ℕ → ℕ → Bool → ℕ → ℕ
-fieldNo s k right wrong = orElse (unless (ltb k (length s)) 3) (unless right wrong)
+fieldNo s at right wrong = partNo s at 1 right wrong
 
 -- 'the number of bytes that follow', as the length field says it.
 abbrev pub lengthField : List ℕ → ℕ
@@ -17,30 +23,17 @@ lengthField s = 256 * getD s 0 0 + getD s 1 0
 
 -- Number 1: 'fewer than 2 bytes, or the length field is not the count of bytes after it'.
 abbrev pub lengthNo : List ℕ → ℕ
-lengthNo s = unless (leb 2 (length s) && eqb (lengthField s) (length s - 2)) 1
-
--- Where the version byte, the head's four bytes and the first kind stand.
-abbrev pub versionAt : ℕ
-versionAt = 2
-
-abbrev pub registersAt : ℕ
-registersAt = 3
-
-abbrev pub widthAt : ℕ
-widthAt = 4
-
-abbrev pub modulusAt : ℕ
-modulusAt = 5
-
-abbrev pub kindsCountAt : ℕ
-kindsCountAt = 6
-
-abbrev pub kindsAt : ℕ
-kindsAt = 7
+lengthNo s = unless (leb lengthBytes (length s) && eqb (lengthField s) (length s - lengthBytes)) 1
 
 -- Number 2: 'version not 1'.
+unfoldable pub versionOf : List ℕ → ℕ
+versionOf s = getD s versionAt 0
+
+abbrev pub isVersion : ℕ → Bool
+isVersion v = eqb v 1
+
 abbrev pub versionNo : List ℕ → ℕ
-versionNo s = fieldNo s versionAt (eqb (getD s versionAt 0) 1) 2
+versionNo s = fieldNo s versionAt (isVersion (versionOf s)) 2
 
 -- 'register width w (1, 2, 4 or 8 bytes)'.
 abbrev pub isWidth : ℕ → Bool
@@ -63,16 +56,10 @@ headNo s =
     (fieldNo s kindsCountAt (leb 1 (getD s kindsCountAt 0) && leb (getD s kindsCountAt 0) 8) 4)))
 
 -- What both read before the kinds: numbers 1, 2 and 4.
-abbrev pub openingNo : List ℕ → ℕ
+unfoldable pub openingNo : List ℕ → ℕ
 openingNo s = orElse (lengthNo s) (orElse (versionNo s) (headNo s))
 
--- A kind's 'size (1 to 64)' and 'alignment (1, 2, 4, 8 or 16, at most A)'. Where they stand from the kind's first byte on.
-abbrev pub sizeAt : ℕ
-sizeAt = 0
-
-abbrev pub alignmentAt : ℕ
-alignmentAt = 1
-
+-- A kind's 'size (1 to 64)' and 'alignment (1, 2, 4, 8 or 16, at most A)'.
 abbrev pub isSize : ℕ → Bool
 isSize x = leb 1 x && leb x 64
 
@@ -80,9 +67,23 @@ abbrev pub isAlignment : Head → ℕ → Bool
 isAlignment h x = isModulus x && leb x (h .modulus)
 
 -- Number 5, for a kind's size and alignment in turn; s begins at the kind's first byte.
-unfoldable pub shapeNo : Head → List ℕ → ℕ
-shapeNo h s = orElse (fieldNo s sizeAt (isSize (getD s sizeAt 0)) 5) (fieldNo s alignmentAt (isAlignment h (getD s alignmentAt 0)) 5)
+unfoldable pub shapeNo : ℕ → Head → List ℕ → ℕ
+shapeNo v h s = orElse (fieldNo s sizeAt (isSize (getD s sizeAt 0)) 5) (fieldNo s alignmentAt (isAlignment h (getD s alignmentAt 0)) 5)
 
--- Number 6: 'bytes left over', behind the first n.
+-- Both, as the bytes say them; and the bytes that say them.
+unfoldable pub shapeOf : ℕ → List ℕ → Shape
+shapeOf v s = record { size = getD s sizeAt 0; alignment = getD s alignmentAt 0 }
+
+unfoldable pub shapeBytes : ℕ → Shape → List ℕ
+shapeBytes v shape = shape .size ∷ shape .alignment ∷ []
+
+-- The number of states, or of a state, that stands at byte `at`; and the bytes that say it.
+unfoldable pub stateField : ℕ → List ℕ → ℕ → ℕ
+stateField v s at = getD s at 0
+
+unfoldable pub stateBytes : ℕ → ℕ → List ℕ
+stateBytes v n = n ∷ []
+
+-- Number 6: 'bytes left over', after the first n.
 abbrev pub leftOverNo : List ℕ → ℕ → ℕ
 leftOverNo s n = unless (leb (length s) n) 6

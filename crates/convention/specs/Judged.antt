@@ -8,14 +8,9 @@ use Rattle.convention.specs.declared.Judging.{Judging}
 use Rattle.convention.specs.declared.Judging.the-variants.{Clean, Fault}
 use Rattle.convention.specs.Numbers.{orElse, unless}
 use Rattle.convention.specs.Tables.{tableNo, tableOf}
-use Rattle.convention.specs.Lists.{Steps, faultFrom}
+use Rattle.convention.specs.Lists.{Steps, faultFrom, KindsBelow}
 use Rattle.convention.specs.Walked.{byTable}
 use Rattle.convention.specs.Orders.{Before}
-
--- A list of a table's kinds: each below m.
-unfoldable pub KindsBelow : ℕ → List ℕ → Type 0
-KindsBelow m [] = Unit {0}
-KindsBelow m (k ∷ ks) = (k < m) × KindsBelow m ks
 
 -- The fault of a list in the walk by the table t, 0 where the list is not faulty.
 abbrev pub listFault : List ℕ → List ℕ → ℕ

@@ -1,6 +1,8 @@
 pub mod Numbers
 pub mod Bytes
+pub mod Layout
 pub mod Fields
+pub mod Shapes
 pub mod Sheets
 pub mod Tables
 pub mod Offsets
@@ -9,6 +11,8 @@ pub mod Rules
 pub mod Walked
 pub mod Orders
 pub mod Explored
+pub mod Scanned
+pub mod Reached
 pub mod Built
 pub mod Judged
 pub mod WellPlaced

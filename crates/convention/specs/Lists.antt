@@ -1,5 +1,5 @@
 -- Document 01: what placing by the rules and placing by a table have in common. A list, argument by argument; records; the answer and the lent memory.
-use Prim.Native.Nat.{ℕ, zero, suc, _*_}
+use Prim.Native.Nat.{ℕ, zero, suc, _*_, _<_}
 use mathlib.Core.Bool.{true, false, cond}
 use mathlib.Core.List.{List, [], _∷_, _++_}
 use lib.Dec.{ltb, leb}
@@ -7,6 +7,7 @@ use lib.ListN.{length, getD, drop}
 use Rattle.convention.specs.declared.Offset.{Offset}
 use Rattle.convention.specs.declared.Placement.{Placement}
 use Rattle.convention.specs.declared.Placement.the-variants.{Registers, Stack, Nowhere}
+use Rattle.convention.specs.declared.Spelling.{Spelling}
 use Rattle.convention.specs.declared.Placing.{Placing}
 use Rattle.convention.specs.declared.Placing.the-variants.{Placed, Unknown, Faulty}
 use Rattle.convention.specs.Numbers.{orElse, unless}
@@ -45,11 +46,15 @@ placesFrom M s (k ∷ ks) = M .place s k ∷ placesFrom M (M .after s k) ks
 abbrev pub placeBy : (M : Steps) → List ℕ → ℕ → Placement
 placeBy M ks i = getD (placesFrom M (M .begin) ks) i Nowhere
 
+-- 'A placement is one of three things: registers with a first and a count, stack with an offset and a count, or none': its form, number and count.
+abbrev pub spelled : Placement → Spelling
+spelled (Registers first count) = record { form = 1; number = first .0; count = count }
+spelled (Stack offset count) = record { form = 2; number = offset .0; count = count }
+spelled Nowhere = record { form = 0; number = 0; count = 0 }
+
 -- 'Its record is form (1 or 2), first register or offset in four bytes, big-endian, and count in one byte.'
 abbrev pub recordOf : Placement → List ℕ
-recordOf (Registers first count) = 1 ∷ (fourBytes (first .0) ++ count ∷ [])
-recordOf (Stack offset count) = 2 ∷ (fourBytes (offset .0) ++ count ∷ [])
-recordOf Nowhere = 0 ∷ (fourBytes 0 ++ 0 ∷ [])
+recordOf place = spelled place .form ∷ (fourBytes (spelled place .number) ++ spelled place .count ∷ [])
 
 -- 'Needed room: placing, 6 bytes an argument.'
 abbrev pub recordLength : ℕ
@@ -63,6 +68,11 @@ recordsOf (place ∷ places) = recordOf place ++ recordsOf places
 unfoldable pub unknownAt : ℕ → List ℕ → ℕ
 unknownAt m [] = 0
 unknownAt m (k ∷ ks) = elim (ltb k m) [ true ↦ suc (unknownAt m ks) | false ↦ 0 ]
+
+-- A list of kinds of a convention that has m: each is below m.
+unfoldable pub KindsBelow : ℕ → List ℕ → Type 0
+KindsBelow m [] = Unit {0}
+KindsBelow m (k ∷ ks) = (k < m) × KindsBelow m ks
 
 -- 'Then, placing: 8, 12, ..': the number of so many arguments with so much room, before any kind is looked at.
 abbrev pub listNo : ℕ → ℕ → ℕ → ℕ

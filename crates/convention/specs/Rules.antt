@@ -12,9 +12,11 @@ use Rattle.convention.specs.declared.SheetKind.{SheetKind}
 use Rattle.convention.specs.declared.Sheet.{Sheet}
 use Rattle.convention.specs.declared.ByRules.{ByRules}
 use Rattle.convention.specs.declared.Placing.{Placing}
-use Rattle.convention.specs.Sheets.{registersNeeded, mayUseStack, isClosing, sheetKind, sheetNo, sheetOf}
+use Rattle.convention.specs.Numbers.{unless}
+use Rattle.convention.specs.Shapes.{registersNeeded, stackBytes}
+use Rattle.convention.specs.Sheets.{mayUseStack, isClosing, sheetKind, sheetNo, sheetOf}
 use Rattle.convention.specs.Offsets.{leastOffset}
-use Rattle.convention.specs.Lists.{Steps, placing, placingMemory}
+use Rattle.convention.specs.Lists.{Steps, spelled, placing, placingMemory}
 
 -- 'run s to s + k - 1 is wholly available': none of the `left` registers from `at` on is taken.
 unfoldable pub freeRun : List Bool → ℕ → ℕ → Bool
@@ -40,7 +42,7 @@ abbrev pub startsOf : SheetKind → List ℕ
 startsOf kind = take (kind .tries) (kind .starts)
 
 abbrev pub needed : ℕ → SheetKind → ℕ
-needed w kind = registersNeeded w (kind .size)
+needed w kind = registersNeeded w (kind .shape)
 
 abbrev pub leftOf : ℕ → SheetKind → List Bool → ℕ
 leftOf w kind taken = leftBefore taken (needed w kind) (startsOf kind)
@@ -52,25 +54,19 @@ fits w kind taken = ltb (leftOf w kind taken) (length (startsOf kind))
 abbrev pub startTaken : ℕ → SheetKind → List Bool → ℕ
 startTaken w kind taken = getD (startsOf kind) (leftOf w kind taken) 0
 
--- 'It takes size bytes.'
-abbrev pub stackBytes : ℕ → ℕ
-stackBytes size = size
-
 -- Rule 2: 'the least offset o, at least p, that is a multiple of the alignment'.
 abbrev pub stackOffset : SheetKind → ℕ → ℕ
-stackOffset kind p = leastOffset (kind .alignment) 0 p
+stackOffset kind p = leastOffset (kind .shape .alignment) 0 p
 
 -- Rules 1, 2 and 3: registers; otherwise, if the stack is allowed, stack; otherwise no place.
 unfoldable pub rulesPlace : ℕ → SheetKind → ByRules → Placement
 rulesPlace w kind s =
     cond (fits w kind (s .unavailable)) (Registers (record { 0 = startTaken w kind (s .unavailable) }) (needed w kind))
-    (cond (mayUseStack kind) (Stack (record { 0 = stackOffset kind (s .p .0) }) (stackBytes (kind .size))) Nowhere)
+    (cond (mayUseStack kind) (Stack (record { 0 = stackOffset kind (s .p .0) }) (stackBytes (kind .shape))) Nowhere)
 
 -- 'by the rules: no place, fault 1'.
 abbrev pub placeFault : Placement → ℕ
-placeFault (Registers first count) = 0
-placeFault (Stack offset count) = 0
-placeFault Nowhere = 1
+placeFault place = unless (ltb 0 (spelled place .form)) 1
 
 -- 'The run becomes unavailable'; 'p becomes o + size'.
 abbrev pub placeTaken : Placement → List Bool → List Bool

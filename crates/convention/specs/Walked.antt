@@ -1,22 +1,23 @@
 -- Document 01, 'Placing by a table'.
-use Prim.Native.Nat.{ℕ, _*_, _%_}
+use Prim.Native.Nat.{ℕ, _%_}
 use mathlib.Core.Bool.{Bool, cond}
 use mathlib.Core.List.{List}
-use lib.Dec.{leb, eqb}
+use lib.Dec.{eqb}
 use lib.ListN.{length}
 use Rattle.convention.specs.declared.Head.{Head}
 use Rattle.convention.specs.declared.Placement.{Placement}
 use Rattle.convention.specs.declared.Placement.the-variants.{Registers, Stack, Nowhere}
-use Rattle.convention.specs.declared.TableKind.{TableKind}
+use Rattle.convention.specs.declared.Shape.{Shape}
 use Rattle.convention.specs.declared.Table.{Table}
 use Rattle.convention.specs.declared.Transition.{Transition}
 use Rattle.convention.specs.declared.ByTable.{ByTable}
 use Rattle.convention.specs.declared.Placing.{Placing}
 use Rattle.convention.specs.Numbers.{orElse, unless}
 use Rattle.convention.specs.Offsets.{leastOffset}
+use Rattle.convention.specs.Shapes.{rightCount, stackBytes}
 use Rattle.convention.specs.Tables.{tableKind, transition, tableNo, tableOf}
 use Rattle.convention.specs.Lists.{Steps, placing, placingMemory}
-use Rattle.convention.specs.Rules.{freeRun, stackBytes, placeTaken, placeP, noRegisters}
+use Rattle.convention.specs.Rules.{freeRun, placeTaken, placeP, noRegisters}
 
 -- 'Form 1 gives registers. Form 2 gives the least offset, at least p, whose remainder by A is the residue.'
 abbrev pub tablePlace : Head → Transition → ℕ → Placement
@@ -24,21 +25,17 @@ tablePlace h x p =
     cond (eqb (x .form) 1) (Registers (record { 0 = x .a }) (x .b))
     (cond (eqb (x .form) 2) (Stack (record { 0 = leastOffset (h .modulus) (x .a) p }) (x .b)) Nowhere)
 
--- When a register count is right: b times w is not below the size.
-abbrev pub rightCount : ℕ → ℕ → ℕ → Bool
-rightCount w b size = leb size (b * w)
-
 -- 'fault 2: a register of the run was given to an earlier argument; fault 3: registers with b times w below the size, or stack with b
 -- other than the size; fault 4: stack with a residue that is no multiple of the alignment'.
-abbrev pub registersFault : Head → TableKind → Transition → List Bool → ℕ
-registersFault h kind x given = orElse (unless (freeRun given (x .a) (x .b)) 2) (unless (rightCount (h .width) (x .b) (kind .size)) 3)
+abbrev pub registersFault : Head → Shape → Transition → List Bool → ℕ
+registersFault h shape x given = orElse (unless (freeRun given (x .a) (x .b)) 2) (unless (rightCount (h .width) (x .b) shape) 3)
 
-abbrev pub stackFault : TableKind → Transition → ℕ
-stackFault kind x = orElse (unless (eqb (x .b) (stackBytes (kind .size))) 3) (unless (eqb (x .a % kind .alignment) 0) 4)
+abbrev pub stackFault : Shape → Transition → ℕ
+stackFault shape x = orElse (unless (eqb (x .b) (stackBytes shape)) 3) (unless (eqb (x .a % shape .alignment) 0) 4)
 
 -- 'A step's fault is the first that applies', fault 1 for form 0; 0 where none does.
-unfoldable pub tableFault : Head → TableKind → Transition → List Bool → ℕ
-tableFault h kind x given = cond (eqb (x .form) 1) (registersFault h kind x given) (cond (eqb (x .form) 2) (stackFault kind x) 1)
+unfoldable pub tableFault : Head → Shape → Transition → List Bool → ℕ
+tableFault h shape x given = cond (eqb (x .form) 1) (registersFault h shape x given) (cond (eqb (x .form) 2) (stackFault shape x) 1)
 
 -- The registers of the run are given; 'p becomes that offset + b'; the next state. Closed registers play no part.
 unfoldable pub tableAfter : Head → Transition → ByTable → ByTable

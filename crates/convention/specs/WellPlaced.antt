@@ -1,13 +1,15 @@
 -- Demand 3 in its own words: when a list of kinds goes right by a table. (The faults of 'Placing by a table' are 01's other way to say it; that they agree is `well-placed`, crates/walking.)
-use Prim.Native.Nat.{ℕ, _+_, _*_, _%_, _≤_, _<_}
+use Prim.Native.Nat.{ℕ, _+_, _%_, _≤_, _<_}
 use mathlib.Core.Path.{_≡_}
+use mathlib.Core.Bool.{true}
 use mathlib.Core.Logic.{_⊎_}
 use mathlib.Core.List.{List}
 use lib.ListN.{length, getD}
 use Rattle.convention.specs.declared.Head.{Head}
-use Rattle.convention.specs.declared.TableKind.{TableKind}
+use Rattle.convention.specs.declared.Shape.{Shape}
 use Rattle.convention.specs.declared.Placement.{Placement}
 use Rattle.convention.specs.declared.Placement.the-variants.{Registers, Stack, Nowhere}
+use Rattle.convention.specs.Shapes.{rightCount, stackBytes}
 use Rattle.convention.specs.Tables.{tableKind, tableOf}
 use Rattle.convention.specs.Lists.{placeBy}
 use Rattle.convention.specs.Walked.{byTable}
@@ -29,10 +31,10 @@ abbrev pub Share : Placement → Placement → Type 0
 Share a b = ((r : ℕ) × HasRegister a r × HasRegister b r) ⊎ ((x : ℕ) × HasByte a x × HasByte b x)
 
 -- A place that is right for a kind: registers, all of them below n, that hold at least its size; or exactly its size of stack bytes, at a multiple of its alignment.
-unfoldable pub Right : Head → TableKind → Placement → Type 0
-Right h kind (Registers first count) = ((r : ℕ) → HasRegister (Registers first count) r → r < h .registers) × (kind .size ≤ count * h .width)
-Right h kind (Stack offset count) = (count ≡ kind .size) × (offset .0 % kind .alignment ≡ 0)
-Right h kind Nowhere = ⊥
+unfoldable pub Right : Head → Shape → Placement → Type 0
+Right h shape (Registers first count) = ((r : ℕ) → HasRegister (Registers first count) r → r < h .registers) × (rightCount (h .width) count shape ≡ true)
+Right h shape (Stack offset count) = (count ≡ stackBytes shape) × (offset .0 % shape .alignment ≡ 0)
+Right h shape Nowhere = ⊥
 
 -- The place that the table t gives argument i of a list.
 abbrev pub placeOf : List ℕ → List ℕ → ℕ → Placement

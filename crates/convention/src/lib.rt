@@ -1,6 +1,12 @@
 // The words of document 01: registers and offsets, the placement, heads and kinds, the states, and the answer of each call.
 // Types alone. What they mean stands in specs/, section by section; the laws of those definitions stand in proofs/.
 
+// The most states of a table: the definition `stateLimit`.
+pub const STATE_LIMIT: usize = 200;
+
+// The most arguments that a call places: `argumentLimit`.
+pub const ARGUMENT_LIMIT: usize = 400;
+
 // A register's number. Never an offset.
 pub struct Reg(pub u8);
 
@@ -14,6 +20,14 @@ pub enum Placement {
     Nowhere,
 }
 
+// What a placement is made of: its form, 1 for registers, 2 for the stack and 0 for nowhere; its first register or its offset;
+// its count.
+pub struct Spelling {
+    pub form: u8,
+    pub number: u32,
+    pub count: u8,
+}
+
 // The head of a sheet or a table: n, w, A and m.
 pub struct Head {
     pub registers: u8,
@@ -22,31 +36,32 @@ pub struct Head {
     pub kinds: u8,
 }
 
-// A sheet's kind. Of `starts` the first `tries` count; the others are 0.
-pub struct SheetKind {
+// What both files say of a kind: its size and its alignment. It is all that a table says of one.
+pub struct Shape {
     pub size: u8,
     pub alignment: u8,
+}
+
+// A sheet's kind. Of `starts` the first `tries` count; the others are 0.
+pub struct SheetKind {
+    pub shape: Shape,
     pub flags: u8,
     pub tries: u8,
     pub starts: [u8; 16],
 }
 
-// A table's kind.
-pub struct TableKind {
-    pub size: u8,
-    pub alignment: u8,
-}
-
 // A sheet that was read. Of `kinds` the first m count; the others are blank.
 pub struct Sheet {
+    pub version: u8,
     pub head: Head,
     pub kinds: [SheetKind; 8],
 }
 
 // A table that was read, but for its rows, which stay in the caller's bytes. Of `kinds` the first m count.
 pub struct Table {
+    pub version: u8,
     pub head: Head,
-    pub kinds: [TableKind; 8],
+    pub kinds: [Shape; 8],
     pub states: u16,
 }
 

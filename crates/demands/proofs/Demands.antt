@@ -34,6 +34,7 @@ use Rattle.walking.proofs.WellPlaced.{well-placed}
 use Rattle.building.proofs.Agreement.{agree-stop, agree-before, agree-p}
 use Rattle.building.proofs.Calls.{same-answer, same-bytes}
 use Rattle.building.proofs.Readable.{built-states}
+use Rattle.convention.proofs.Positions.{length-said}
 use Rattle.building.proofs.Bytes.{built-says, built-sheet, built-readable, bytes-are, bytes-behind}
 use Rattle.judging.proofs.Fronts.{stops}
 use Rattle.judging.proofs.Trying.{trying-judges}
@@ -98,8 +99,8 @@ module _ (s out : List ℕ) (n len : ℕ) (built : build stateLimit s (length ou
             sym (getD-take _ _ i Nowhere alike)
             ∙ (ap (λ l. getD l i Nowhere) (agree-before stateLimit (sheetOf s) sheet whole ks below) ∙ getD-take _ _ i Nowhere h);
         final = λ ks below e. agree-p stateLimit (sheetOf s) sheet whole ks below (no-stop (rules s) _ ks e);
-        answer = same-answer stateLimit argumentLimit s read whole (omega arith);
-        memory = same-bytes stateLimit argumentLimit s read whole (omega arith);
+        answer = same-answer stateLimit argumentLimit s read whole length-said;
+        memory = same-bytes stateLimit argumentLimit s read whole length-said;
       }
 
   -- So do the bytes that building wrote, which are that table.
@@ -109,7 +110,7 @@ module _ (s out : List ℕ) (n len : ℕ) (built : build stateLimit s (length ou
       let same = bytes-are stateLimit s out n len built in
       record {
         long = rw same (sym (says .2));
-        readable = rw same (built-readable stateLimit s (length out) n len built (omega arith));
+        readable = rw same (built-readable stateLimit s (length out) n len built length-said);
         states = rw same (built-states (sheetOf s) (builtStates stateLimit (sheetOf s)) ∙ sym (says .1));
         alike = rw same places-alike;
         behind = bytes-behind stateLimit s out n len built;

@@ -12,8 +12,7 @@ use borrow.Author.Tests.{ltb-true, ltb-false}
 use Rattle.convention.specs.declared.Placing.{Placing}
 use Rattle.convention.specs.declared.Placing.the-variants.{Placed, Unknown, Faulty}
 use Rattle.convention.specs.Numbers.{argumentLimit, orElse, unless, placingSays}
-use Rattle.convention.specs.Lists.{Steps, faultFrom, stopFrom, stateFrom, unknownAt, recordLength, walkAnswer, placingAnswer, placing, placingMemory}
-use Rattle.convention.specs.Judged.{KindsBelow}
+use Rattle.convention.specs.Lists.{Steps, faultFrom, stopFrom, stateFrom, unknownAt, recordLength, walkAnswer, placingAnswer, placing, placingMemory, KindsBelow}
 use Rattle.convention.proofs.Numbers.{or-zero, or-here, or-at, or-past, or-on, or-keeps}
 use Rattle.convention.proofs.Lists.{unknown-le, unknown-turn, unknown-hit, known-below, below-at, fault-append, stop-append, fault-hit, stop-hit}
 use Rattle.convention.proofs.Runs.{either}

@@ -11,9 +11,10 @@ use lib.ListN.{length, getD, drop}
 use borrow.Author.Tests.{ltb-true, leb-true, leb-false, le-leb, lt-leb, lt-ltb, eqb-true, eqb-false, eq-eqb, ne-eqb}
 use Rattle.convention.specs.declared.Head.{Head}
 use Rattle.convention.specs.Numbers.{orElse, unless}
-use Rattle.convention.specs.Fields.{lengthField, lengthNo, versionAt, versionNo, openingNo, headNo, shapeNo, kindsAt, headOf}
+use Rattle.convention.specs.Layout.{lengthBytes, versionAt, kindsAt, shapeLength, transitionLength}
+use Rattle.convention.specs.Fields.{lengthField, lengthNo, versionOf, isVersion, versionNo, openingNo, headNo, shapeNo, headOf}
 use Rattle.convention.specs.Sheets.{startsNo, sheetKindNo, sheetKindLength, sheetKindsNo, sheetNo}
-use Rattle.convention.specs.Tables.{tableKindLength, tableKindsNo, transitionLength, transitionNo, transitionsNo, tableNo}
+use Rattle.convention.specs.Tables.{tableKindsNo, transitionNo, transitionsNo, tableNo}
 use Rattle.convention.proofs.Numbers.{or-assoc, or-keeps}
 use Rattle.demands.specs.Demands.{ReadingRefuses}
 
@@ -37,9 +38,9 @@ module _ (most : ℕ) (three : 3 ≤ most) (four : 4 ≤ most) (five : 5 ≤ mos
   unfolding headNo
   later-head s = search (later-or, later-test, three, four)
 
-  later-shape : (h : Head) (s : List ℕ) → Later most (shapeNo h s)
+  later-shape : (v : ℕ) (h : Head) (s : List ℕ) → Later most (shapeNo v h s)
   unfolding shapeNo
-  later-shape h s = search (later-or, later-test, three, five)
+  later-shape v h s = search (later-or, later-test, three, five)
 
 -- A sheet's kinds.
 module _ (three : 3 ≤ 6) (four : 4 ≤ 6) (five : 5 ≤ 6) where
@@ -48,27 +49,27 @@ module _ (three : 3 ≤ 6) (four : 4 ≤ 6) (five : 5 ≤ 6) where
   later-starts n k s at zero = later-none 6
   later-starts n k s at (suc left) = let on = later-starts n k s (at + 1) left in search (later-or, later-test, three, five)
 
-  later-kind : (h : Head) (s : List ℕ) → Later 6 (sheetKindNo h s)
+  later-kind : (v : ℕ) (h : Head) (s : List ℕ) → Later 6 (sheetKindNo v h s)
   unfolding sheetKindNo
-  later-kind h s = let shape = later-shape 6 three four five h s in search (later-or, later-test, later-starts, three, five)
+  later-kind v h s = let shape = later-shape 6 three four five v h s in search (later-or, later-test, later-starts, three, five)
 
-  later-kinds : (h : Head) (s : List ℕ) (left : ℕ) → Later 6 (sheetKindsNo h s left)
+  later-kinds : (v : ℕ) (h : Head) (s : List ℕ) (left : ℕ) → Later 6 (sheetKindsNo v h s left)
   unfolding sheetKindsNo
-  later-kinds h s zero = later-none 6
-  later-kinds h s (suc left) = later-or 6 _ _ (later-kind h s) (later-kinds h (drop (sheetKindLength s) s) left)
+  later-kinds v h s zero = later-none 6
+  later-kinds v h s (suc left) = later-or 6 _ _ (later-kind v h s) (later-kinds v h (drop (sheetKindLength v s) s) left)
 
 -- A table's kinds and transitions.
 module _ (three : 3 ≤ 7) (four : 4 ≤ 7) (five : 5 ≤ 7) (seven : 7 ≤ 7) where
-  later-shapes : (h : Head) (s : List ℕ) (left : ℕ) → Later 7 (tableKindsNo h s left)
+  later-shapes : (v : ℕ) (h : Head) (s : List ℕ) (left : ℕ) → Later 7 (tableKindsNo v h s left)
   unfolding tableKindsNo
-  later-shapes h s zero = later-none 7
-  later-shapes h s (suc left) = later-or 7 _ _ (later-shape 7 three four five h s) (later-shapes h (drop tableKindLength s) left)
+  later-shapes v h s zero = later-none 7
+  later-shapes v h s (suc left) = later-or 7 _ _ (later-shape 7 three four five v h s) (later-shapes v h (drop (shapeLength v) s) left)
 
-  later-transitions : (h : Head) (states : ℕ) (t : List ℕ) (at left : ℕ) → Later 7 (transitionsNo h states t at left)
+  later-transitions : (v : ℕ) (h : Head) (states : ℕ) (t : List ℕ) (at left : ℕ) → Later 7 (transitionsNo v h states t at left)
   unfolding transitionsNo transitionNo
-  later-transitions h states t at zero = later-none 7
-  later-transitions h states t at (suc left) =
-      let on = later-transitions h states t (at + transitionLength) left in search (later-or, later-test, three, seven)
+  later-transitions v h states t at zero = later-none 7
+  later-transitions v h states t at (suc left) =
+      let on = later-transitions v h states t (at + transitionLength v) left in search (later-or, later-test, three, seven)
 
 -- Whatever is read behind the version: the tests of the length and of the version, by what each says.
 module _ (most rest : ℕ) (some : 3 ≤ most) (later : Later most rest) where
@@ -104,22 +105,24 @@ module _ (most rest : ℕ) (some : 3 ≤ most) (later : Later most rest) where
   number-most true true true true = rest-most
 
   reading-refuses : (file : List ℕ) → ReadingRefuses file most (orElse (lengthNo file) (orElse (versionNo file) rest))
+  unfolding versionOf
   reading-refuses file =
-      let long = leb 2 (length file) in
-      let counted = eqb (lengthField file) (length file - 2) in
-      let there = ltb versionAt (length file) in
-      let right = eqb (getD file versionAt 0) 1 in
+      let long = leb lengthBytes (length file) in
+      let counted = eqb (lengthField file) (length file - lengthBytes) in
+      let there = leb (versionAt + 1) (length file) in
+      let right = isVersion (versionOf file) in
       record {
         one = Iff·trans (one-when long counted there right) (⊎-map (leb-false 2 _) (eqb-false _ _), ⊎-map (lt-leb 2 _) (ne-eqb _ _));
         two = Iff·trans (two-when long counted there right) (
-          λ e. (leb-true 2 _ (e .0), eqb-true _ _ (e .1), ltb-true versionAt _ (e .2), eqb-false _ 1 (e .3)),
-          λ e. (le-leb 2 _ (e .0), eq-eqb _ _ (e .1), lt-ltb versionAt _ (e .2), ne-eqb _ 1 (e .3)),
+          λ e. (leb-true 2 _ (e .0), eqb-true _ _ (e .1), leb-true (versionAt + 1) _ (e .2), eqb-false _ 1 (e .3)),
+          λ e. (le-leb 2 _ (e .0), eq-eqb _ _ (e .1), le-leb (versionAt + 1) _ (e .2), ne-eqb _ 1 (e .3)),
         );
         others = number-most long counted there right;
       }
 
 -- So of a sheet and of a table: what both read first is the length and the version.
 opened : (file : List ℕ) (rest : ℕ) → orElse (openingNo file) rest ≡ orElse (lengthNo file) (orElse (versionNo file) (orElse (headNo file) rest))
+unfolding openingNo
 opened file rest = or-assoc (lengthNo file) _ rest ∙ ap (orElse (lengthNo file)) (or-assoc (versionNo file) (headNo file) rest)
 
 pub sheet-refuses : (s : List ℕ) → ReadingRefuses s 6 (sheetNo s)
@@ -130,7 +133,7 @@ sheet-refuses s =
     let five : 5 ≤ 6 = omega arith in
     let six : 6 ≤ 6 = omega arith in
     let head = later-head 6 three four five s in
-    let kinds = later-kinds three four five (headOf s) (drop kindsAt s) (headOf s .kinds) in
+    let kinds = later-kinds three four five (versionOf s) (headOf s) (drop kindsAt s) (headOf s .kinds) in
     subst (ReadingRefuses s 6) (sym (opened s _)) (reading-refuses 6 _ three (search (later-or, later-test, needs)) s)
 
 pub table-refuses : (limit : ℕ) (t : List ℕ) → ReadingRefuses t 7 (tableNo limit t)
@@ -142,6 +145,6 @@ table-refuses limit t =
     let six : 6 ≤ 7 = omega arith in
     let seven : 7 ≤ 7 = omega arith in
     let head = later-head 7 three four five t in
-    let kinds = later-shapes three four five seven (headOf t) (drop kindsAt t) (headOf t .kinds) in
+    let kinds = later-shapes three four five seven (versionOf t) (headOf t) (drop kindsAt t) (headOf t .kinds) in
     let rows = later-transitions three four five seven in
     subst (ReadingRefuses t 7) (sym (opened t _)) (reading-refuses 7 _ three (search (later-or, later-test, needs)) t)

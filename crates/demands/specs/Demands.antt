@@ -22,15 +22,16 @@ use Rattle.convention.specs.declared.Building.the-variants.{Built}
 use Rattle.convention.specs.declared.Judging.{Judging}
 use Rattle.convention.specs.declared.Judging.the-variants.{Clean, Fault}
 use Rattle.convention.specs.Numbers.{stateLimit, argumentLimit, readingNo, placingSays, buildingSays, judgingSays}
-use Rattle.convention.specs.Fields.{lengthField, versionAt}
+use Rattle.convention.specs.Fields.{lengthField}
 use Rattle.convention.specs.Sheets.{sheetNo, sheetOf, readSheet}
-use Rattle.convention.specs.Tables.{tableNo, tableOf, readTable, rowLength, rowAt, rowNo, row}
-use Rattle.convention.specs.Lists.{Steps, placeBy, faultFrom, stopFrom, stateFrom, recordOf, recordLength}
+use Rattle.convention.specs.Layout.{lengthBytes, versionAt, rowLength, rowAt}
+use Rattle.convention.specs.Tables.{tableNo, tableOf, readTable, rowNo, row}
+use Rattle.convention.specs.Lists.{Steps, placeBy, faultFrom, stopFrom, stateFrom, recordOf, recordLength, KindsBelow}
 use Rattle.convention.specs.Rules.{byRules, placeByRules, rulesMemory}
 use Rattle.convention.specs.Walked.{byTable, placeByTable, tableMemory}
 use Rattle.convention.specs.Built.{builtTable, build, buildMemory}
 use Rattle.convention.specs.Orders.{Before}
-use Rattle.convention.specs.Judged.{KindsBelow, listFault, Judges}
+use Rattle.convention.specs.Judged.{listFault, Judges}
 use Rattle.convention.specs.WellPlaced.{WellPlaced}
 use Rattle.convention.specs.Promised.{SheetRead, TableRead}
 use Rattle.building.specs.Reached.{ReachMore}
@@ -68,8 +69,8 @@ OneOf (k ∷ ks) n = (n ≡ k) ⊎ OneOf ks n
 -- Reading, of a sheet (no number above 6) and of a table (none above 7). Numbers 3 to 7 are defined in 01's words, by the bytes from left to right: `Fields`, `Sheets` and
 -- `Tables` of crates/convention/specs.
 pub record ReadingRefuses (file : List ℕ) (most number : ℕ) : Type 0 where
-  pub one : number ≡ 1 ↔ (length file < 2) ⊎ (lengthField file ≡ length file - 2 → ⊥)
-  pub two : number ≡ 2 ↔ (2 ≤ length file) × (lengthField file ≡ length file - 2) × (versionAt < length file) × (getD file versionAt 0 ≡ 1 → ⊥)
+  pub one : number ≡ 1 ↔ (length file < lengthBytes) ⊎ (lengthField file ≡ length file - lengthBytes → ⊥)
+  pub two : number ≡ 2 ↔ (lengthBytes ≤ length file) × (lengthField file ≡ length file - lengthBytes) × (versionAt < length file) × (getD file versionAt 0 ≡ 1 → ⊥)
   pub others : number ≤ most
 
 -- 'a kind number of m or more in the list; with the first such position'.
@@ -128,7 +129,7 @@ pub record RowRefuses (t : List ℕ) (state number : ℕ) (part : List ℕ) : Ty
   pub success : number ≡ 0 ↔ (tableNo stateLimit t ≡ 0) × (state < tableOf t .states)
   pub others : OneOf (0 ∷ tableNo stateLimit t ∷ 13 ∷ []) number
   pub empty : 0 < number ↔ part ≡ []
-  pub bytes : number ≡ 0 → part ≡ take (rowLength (tableOf t .head .kinds)) (drop (rowAt (tableOf t .head .kinds) state) t)
+  pub bytes : number ≡ 0 → part ≡ take (rowLength (tableOf t .version) (tableOf t .head)) (drop (rowAt (tableOf t .version) (tableOf t .head) state) t)
 
 -- One kind of a file of m kinds, of which reading gave a number: 9 where there is none, as placing a list of that one kind would answer.
 pub record KindRefuses (readNo m k number : ℕ) : Type 0 where

@@ -1,10 +1,20 @@
-// What both readers use: a byte or 0, a field and its number, the opening of a file, a kind's size and alignment.
+// What both readers use: a byte or 0, a field and its number, the opening of a file, a kind's shape, the number of a state.
 // Each answers the number of the first thing that is wrong, 0 where nothing is: document 01's 'left to right'.
+pub mod layout;
+pub mod shapes;
+
 use convention::Head;
 ghost use mathlib.Core.Path.{_≡_};
+ghost use Prim.Native.Nat.{_+_, _<_, _^_};
 ghost use lib.ListN.{getD};
 ghost use Rattle.convention.specs.Numbers.{orElse, unless as unlessPasses};
-ghost use Rattle.convention.specs.Fields.{fieldNo, lengthNo, headOf, headNo, openingNo, isWidth, isModulus, isAlignment, shapeNo, leftOverNo};
+ghost use Rattle.convention.specs.Fields.{partNo, fieldNo, lengthNo, versionOf, headOf, headNo, openingNo, isWidth, isModulus, stateField, leftOverNo};
+use crate::layout::KINDS_COUNT_AT;
+use crate::layout::LENGTH_BYTES;
+use crate::layout::MODULUS_AT;
+use crate::layout::REGISTERS_AT;
+use crate::layout::VERSION_AT;
+use crate::layout::WIDTH_AT;
 
 // The byte at k, 0 where there is none.
 pub fn byte_at(s: &[u8], k: usize) -> u8
@@ -27,15 +37,22 @@ pub fn unless(passes: bool, number: u8) -> u8
     if passes { 0 } else { number }
 }
 
-// The number of the field at k: 3 where its byte is missing, `wrong` where its value is not right.
+// The number of `long` bytes from byte `at` on: 3 where one is missing, `wrong` where what they say is not right.
+pub fn part_no(s: &[u8], at: usize, long: usize, right: bool, wrong: u8) -> u8
+    requires { ⌜ at + long < 2 ^ 64 ⌝ }
+    ensures { λ r. ⌜ r ≡ partNo (now (s .entry)) at long right wrong ⌝ }
+{
+    if s.len() < at + long {
+        return 3;
+    }
+    unless(right, wrong)
+}
+
+// The number of the field at k.
 pub fn field_no(s: &[u8], k: usize, right: bool, wrong: u8) -> u8
     ensures { λ r. ⌜ r ≡ fieldNo (now (s .entry)) k right wrong ⌝ }
 {
-    if k < s.len() {
-        if right { 0 } else { wrong }
-    } else {
-        3
-    }
+    if k < s.len() { unless(right, wrong) } else { 3 }
 }
 
 fn is_width(x: u8) -> bool
@@ -44,32 +61,33 @@ fn is_width(x: u8) -> bool
     (x == 1) | (x == 2) | (x == 4) | (x == 8)
 }
 
-fn is_modulus(x: u8) -> bool
+pub(crate) fn is_modulus(x: u8) -> bool
     ensures { λ r. ⌜ r ≡ isModulus x ⌝ }
 {
     (x == 1) | (x == 2) | (x == 4) | (x == 8) | (x == 16)
-}
-
-fn is_alignment(head: Head, x: u8) -> bool
-    ensures { λ r. ⌜ r ≡ isAlignment head x ⌝ }
-{
-    is_modulus(x) & (x <= head.modulus)
 }
 
 // Number 1. A length that two bytes cannot say is never the field's.
 fn length_no(s: &[u8]) -> u8
     ensures { λ r. ⌜ r ≡ lengthNo (now (s .entry)) ⌝ }
 {
-    if s.len() < 2 {
+    if s.len() < LENGTH_BYTES {
         return 1;
     }
     let high = byte_at(s, 0) as usize;
     let low = byte_at(s, 1) as usize;
-    if 256 * high + low == s.len() - 2 {
+    if 256 * high + low == s.len() - LENGTH_BYTES {
         0
     } else {
         1
     }
+}
+
+// The version byte, whether it is right or not.
+pub fn version_of(s: &[u8]) -> u8
+    ensures { λ r. ⌜ r ≡ versionOf (now (s .entry)) ⌝ }
+{
+    byte_at(s, VERSION_AT)
 }
 
 // The head's four bytes, whether they are right or not.
@@ -77,10 +95,10 @@ pub fn head_of(s: &[u8]) -> Head
     ensures { λ r. ⌜ r ≡ headOf (now (s .entry)) ⌝ }
 {
     Head {
-        registers: byte_at(s, 3),
-        width: byte_at(s, 4),
-        modulus: byte_at(s, 5),
-        kinds: byte_at(s, 6),
+        registers: byte_at(s, REGISTERS_AT),
+        width: byte_at(s, WIDTH_AT),
+        modulus: byte_at(s, MODULUS_AT),
+        kinds: byte_at(s, KINDS_COUNT_AT),
     }
 }
 
@@ -89,10 +107,10 @@ fn head_no(s: &[u8]) -> u8
     ensures { λ r. ⌜ r ≡ headNo (now (s .entry)) ⌝ }
 {
     let head = head_of(s);
-    let registers = field_no(s, 3, head.registers <= 16, 4);
-    let width = field_no(s, 4, is_width(head.width), 4);
-    let modulus = field_no(s, 5, is_modulus(head.modulus), 4);
-    let kinds = field_no(s, 6, (1 <= head.kinds) & (head.kinds <= 8), 4);
+    let registers = field_no(s, REGISTERS_AT, head.registers <= 16, 4);
+    let width = field_no(s, WIDTH_AT, is_width(head.width), 4);
+    let modulus = field_no(s, MODULUS_AT, is_modulus(head.modulus), 4);
+    let kinds = field_no(s, KINDS_COUNT_AT, (1 <= head.kinds) & (head.kinds <= 8), 4);
     or_else(registers, or_else(width, or_else(modulus, kinds)))
 }
 
@@ -101,20 +119,18 @@ pub fn opening_no(s: &[u8]) -> u8
     ensures { λ r. ⌜ r ≡ openingNo (now (s .entry)) ⌝ }
 {
     let length = length_no(s);
-    let version = field_no(s, 2, byte_at(s, 2) == 1, 2);
+    let version = field_no(s, VERSION_AT, version_of(s) == 1, 2);
     or_else(length, or_else(version, head_no(s)))
 }
 
-// Number 5, or 3, for a kind's size and alignment; s begins at the kind's first byte.
-pub fn shape_no(head: Head, s: &[u8]) -> u8
-    ensures { λ r. ⌜ r ≡ shapeNo head (now (s .entry)) ⌝ }
+// The number of states, or of a state, that stands at byte `at`.
+pub fn state_field(version: u8, s: &[u8], at: usize) -> u16
+    ensures { λ r. ⌜ r ≡ stateField version (now (s .entry)) at ⌝ }
 {
-    let size = byte_at(s, 0);
-    let right = field_no(s, 0, (1 <= size) & (size <= 64), 5);
-    or_else(right, field_no(s, 1, is_alignment(head, byte_at(s, 1)), 5))
+    byte_at(s, at) as u16
 }
 
-// Number 6: bytes left over behind the first n.
+// Number 6: bytes left over after the first n.
 pub fn left_over_no(s: &[u8], n: usize) -> u8
     ensures { λ r. ⌜ r ≡ leftOverNo (now (s .entry)) n ⌝ }
 {

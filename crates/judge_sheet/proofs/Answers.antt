@@ -14,14 +14,14 @@ use Rattle.convention.specs.Sheets.{sheetOf}
 use Rattle.convention.specs.Built.{builtTable, build, buildMemory}
 use Rattle.convention.specs.Program.{inputLimit, refusedLine, line, Prints}
 use Rattle.line.specs.Appended.{Room, Appended}
-use Rattle.line.proofs.Lengths.{refused-short}
+use Rattle.line.proofs.Lengths.{refused-most}
 use Rattle.judge_sheet.specs.Texts.{lineRoom, tableRoom, TextIs, TableLine}
 use Rattle.judge_sheet.proofs.Texts.{text-is}
 use Rattle.judge_sheet.proofs.Builds.{room-enough, table-bytes}
 
 -- Room for a refusal.
 pub refused-room : (out : List ℕ) (number : ℕ) → lineRoom ≤ length out → number < 256 → Room out 0 (refusedLine number)
-refused-room out number room h = record { fits = omega (arith, room, refused-short number (omega arith)) }
+refused-room out number room h = record { fits = omega (arith, room, refused-most 3 number (omega arith) (omega arith)) }
 
 -- A refusal: there is nothing to judge.
 refused-prints : (input : List ℕ) (number : ℕ) → (inputLimit < length input → number ≡ 1)

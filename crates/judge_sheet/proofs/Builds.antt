@@ -14,8 +14,9 @@ use Rattle.convention.specs.Numbers.{stateLimit, orElse}
 use Rattle.convention.specs.Fields.{headOf}
 use Rattle.convention.specs.Sheets.{sheetNo, sheetOf}
 use Rattle.convention.specs.Built.{builtStates, builtTable, statesNumber, buildNo, build, buildMemory}
+use Rattle.convention.proofs.Positions.{length-said}
 use Rattle.building.proofs.Readable.{built-head, built-states}
-use Rattle.building.proofs.Bytes.{table-most, built-says, built-readable, bytes-are, bytes-within}
+use Rattle.building.proofs.Bytes.{built-most, built-says, built-readable, bytes-are, bytes-within}
 use Rattle.judge_sheet.specs.Texts.{lineRoom, tableRoom, TableAsks}
 
 -- Two tests in order agree where the later ones agree behind a first that passes.
@@ -35,7 +36,7 @@ module _ (s : List ℕ) where
   unfolding buildNo
   same-no =
       or-same (sheetNo s) _ _ λ read.
-      or-same (statesNumber stateLimit (sheetOf s)) _ _ λ e. rw (le-leb _ _ (table-most s read e), le-leb _ _ (le-refl (length table)))
+      or-same (statesNumber stateLimit (sheetOf s)) _ _ λ e. rw (le-leb _ _ (built-most stateLimit s read e), le-leb _ _ (le-refl (length table)))
 
   pub room-enough : build stateLimit s tableRoom ≡ build stateLimit s (length (builtTable stateLimit (sheetOf s)))
   unfolding build
@@ -62,7 +63,7 @@ module _ (s : List ℕ) where
     table-asks head out h room =
         rw table-bytes
         (record {
-          readable = built-readable stateLimit s (length before) n len known (omega arith);
+          readable = built-readable stateLimit s (length before) n len known length-said;
           rows = built-says stateLimit s (length before) n len known .1 ∙ sym (built-states (sheetOf s) (builtStates stateLimit (sheetOf s)));
           head = rw (h, built-head (sheetOf s) (builtStates stateLimit (sheetOf s)));
           room = room;

@@ -1,37 +1,39 @@
 -- No fault's number is above 4.
 use Prim.Native.Nat.{ℕ, _%_, _≤_}
-use mathlib.Core.Bool.{Bool, true, false, cond}
+use mathlib.Core.Logic.{inl, inr}
+use mathlib.Core.Bool.{Bool, true, false}
 use mathlib.Core.List.{List}
 use native.Mathlib.Omega.{arith}
 use lib.Dec.{eqb}
 use Rattle.convention.specs.declared.Head.{Head}
-use Rattle.convention.specs.declared.TableKind.{TableKind}
+use Rattle.convention.specs.declared.Shape.{Shape}
 use Rattle.convention.specs.declared.Table.{Table}
 use Rattle.convention.specs.declared.Transition.{Transition}
 use Rattle.convention.specs.declared.ByTable.{ByTable}
 use Rattle.convention.specs.Numbers.{orElse, unless}
+use Rattle.convention.specs.Shapes.{rightCount, stackBytes}
 use Rattle.convention.specs.Rules.{freeRun}
-use Rattle.convention.specs.Lists.{faultFrom}
-use Rattle.convention.specs.Walked.{rightCount, tableFault, byTable}
-use Rattle.convention.specs.Judged.{KindsBelow}
+use Rattle.convention.specs.Lists.{faultFrom, KindsBelow}
+use Rattle.convention.specs.Walked.{tableFault, byTable}
+use Rattle.convention.proofs.Numbers.{or-keeps}
 use Rattle.convention.proofs.Lists.{faults-keep}
+use Rattle.convention.proofs.Walked.{step-cases}
 
--- A step's, whichever tests pass.
-tests-most : (one two free right whole aligned : Bool)
-    → cond one (orElse (unless free 2) (unless right 3)) (cond two (orElse (unless whole 3) (unless aligned 4)) 1) ≤ 4
-tests-most true two true true whole aligned = omega arith
-tests-most true two true false whole aligned = omega arith
-tests-most true two false right whole aligned = omega arith
-tests-most false true free right true true = omega arith
-tests-most false true free right true false = omega arith
-tests-most false true free right false aligned = omega arith
-tests-most false false free right whole aligned = omega arith
+-- Of two tests in order, whichever pass.
+tests-most : (first later : Bool) (a b : ℕ) → a ≤ 4 → b ≤ 4 → orElse (unless first a) (unless later b) ≤ 4
+tests-most first later a b h k = or-keeps (λ n. n ≤ 4) (unless first a) (unless later b) (test-most first a h) (test-most later b k)
+  where
+    test-most : (passes : Bool) (n : ℕ) → n ≤ 4 → unless passes n ≤ 4
+    test-most true n h = omega arith
+    test-most false n h = h
 
-step-most : (h : Head) (kind : TableKind) (x : Transition) (given : List Bool) → tableFault h kind x given ≤ 4
-unfolding tableFault
-step-most h kind x given =
-    tests-most (eqb (x .form) 1) (eqb (x .form) 2) (freeRun given (x .a) (x .b)) (rightCount (h .width) (x .b) (kind .size)) (eqb (x .b) (kind .size))
-    (eqb (x .a % kind .alignment) 0)
+-- A step's.
+step-most : (h : Head) (kind : Shape) (x : Transition) (given : List Bool) → tableFault h kind x given ≤ 4
+step-most h kind x given = elim (step-cases h x) [
+  | inl r ↦ rw (r .fault kind given) (tests-most (freeRun given (x .a) (x .b)) (rightCount (h .width) (x .b) kind) 2 3 (omega arith) (omega arith))
+  | inr (inl r) ↦ rw (r .fault kind given) (tests-most (eqb (x .b) (stackBytes kind)) (eqb (x .a % kind .alignment) 0) 3 4 (omega arith) (omega arith))
+  | inr (inr r) ↦ rw (r .fault kind given) (omega arith)
+]
 
 -- A list's.
 pub fault-most : (table : Table) (t : List ℕ) (s : ByTable) (ks : List ℕ) → KindsBelow (table .head .kinds) ks → faultFrom (byTable table t) s ks ≤ 4

@@ -18,6 +18,7 @@ use Rattle.convention.specs.Tables.{tableNo}
 use Rattle.convention.specs.Built.{builtTable}
 use Rattle.convention.specs.Judged.{CleanTable, judgeRoom, judgeNo, Judges}
 use Rattle.convention.specs.Program.{inputLimit, refusedLine, line, Prints}
+use Rattle.convention.proofs.Positions.{length-said}
 use Rattle.building.proofs.Bytes.{built-readable}
 use Rattle.judging.proofs.Unique.{first-unique}
 use Rattle.judge_sheet.proofs.Answers.{long-prints}
@@ -91,7 +92,7 @@ always-judged input text p n len number e v =
       | yes h ↦ let z : _≡_ {A = ℕ} 0 1 = cc (p .long h) in omega arith
       | no h ↦
           let t = builtTable stateLimit (sheetOf input) in
-          let right = built-readable stateLimit input (length t) n len (sym (p .builds (omega arith)) ∙ e) (omega arith) in
+          let right = built-readable stateLimit input (length t) n len (sym (p .builds (omega arith)) ∙ e) length-said in
           let found : Judges stateLimit t (p .before) (Judging.Refused number) (p .after) = rw v at (p .judges n len e) in
           omega (arith, rw right at (table-number t (length (p .before)) (p .room n len e)), found .0, found .1)
     ]

@@ -1,4 +1,4 @@
--- What a verdict on a table that can be read says is small: the list has at most 400 kinds, each of one digit. So it is within the memory, and its line is
+-- What a verdict on a table that can be read says is small: the list has at most 2N kinds, each of one digit. So it is within the memory, and its line is
 -- short.
 use Prim.Native.Nat.{ℕ, _≤_, _<_}
 use mathlib.Core.Path.{_≡_}
@@ -11,21 +11,22 @@ use Rattle.convention.specs.declared.Judging.{Judging}
 use Rattle.convention.specs.declared.Judging.the-variants.{Clean, Fault}
 use Rattle.convention.specs.Numbers.{stateLimit, judgingSays}
 use Rattle.convention.specs.Tables.{tableNo, tableOf}
-use Rattle.convention.specs.Judged.{KindsBelow, FaultyList, Judges}
+use Rattle.convention.specs.Lists.{KindsBelow}
+use Rattle.convention.specs.Judged.{FaultyList, Judges}
 use Rattle.convention.specs.Program.{line}
 use Rattle.convention.proofs.Lists.{below-at, at-below}
 use Rattle.convention.proofs.Tables.{table-read}
 use Rattle.judging.proofs.Unique.{judge-zero}
 use Rattle.line.specs.Appended.{Room, Appended}
-use Rattle.line.proofs.Lengths.{built-short}
-use Rattle.judge_sheet.specs.Texts.{TextIs, TableAsks, TableLine}
+use Rattle.line.proofs.Lengths.{line-most}
+use Rattle.judge_sheet.specs.Texts.{listRoom, TextIs, TableAsks, TableLine}
 use Rattle.judge_sheet.proofs.Faults.{fault-most}
 use Rattle.judge_sheet.proofs.Texts.{text-is}
 
 -- What a verdict says, and the kinds of its list.
 record Small (verdict : Judging) (after : List ℕ) : Type 0 where
   fault : judgingSays verdict .fault ≤ 4
-  few : judgingSays verdict .count ≤ 400
+  few : judgingSays verdict .count ≤ listRoom
   within : judgingSays verdict .count ≤ length after
   below : KindsBelow 10 (take (judgingSays verdict .count) after)
 
@@ -56,14 +57,15 @@ module _ (states kinds : ℕ) (t out before : List ℕ) (verdict : Judging) (aft
   line-room =
       let s = small t before verdict after (asks .readable) j in
       let read = table-read stateLimit t (asks .readable) in
-      let rows : states < 1000 = omega (arith, asks .rows, read .states) in
-      let head : kinds < 1000 = omega (arith, asks .head, read .head .kinds) in
-      let few : length (take n after) ≤ 400 = omega (arith, s .few, list-long) in
-      let short = built-short states (length t) kinds verdict (take n after) rows head (omega (arith, s .fault)) (omega (arith, s .few)) (rw e (s .below)) few in
+      let rows : states ≤ stateLimit = omega (arith, asks .rows, read .states) in
+      let head : kinds < 10 = omega (arith, asks .head, read .head .kinds) in
+      let few : length (take n after) ≤ listRoom = omega (arith, s .few, list-long) in
+      let short =
+      line-most stateLimit listRoom states (length t) kinds verdict (take n after) rows head (omega (arith, s .fault)) (s .few) (rw e (s .below)) few in
       record { fits = omega (arith, asks .room, short) }
 
   -- The line is the table's, where the judge had room.
-  pub table-line : (end : ℕ) (out′ : List ℕ) → length before ≡ 400 → Appended out 0 (line (Built states (length t)) kinds verdict (take n after)) end out′
+  pub table-line : (end : ℕ) (out′ : List ℕ) → length before ≡ listRoom → Appended out 0 (line (Built states (length t)) kinds verdict (take n after)) end out′
       → TextIs (TableLine states kinds t) end out′
   table-line end out′ room done =
       text-is (TableLine states kinds t) done

@@ -1,5 +1,5 @@
 -- What the parts of the program ask and promise. What the whole means is `Prints`, crates/convention/specs/Program.antt.
-use Prim.Native.Nat.{ℕ, _≤_}
+use Prim.Native.Nat.{ℕ, _*_, _≤_}
 use mathlib.Core.Path.{_≡_}
 use mathlib.Core.List.{List}
 use lib.ListN.{length, take}
@@ -8,15 +8,21 @@ use Rattle.convention.specs.declared.Building.the-variants.{Built}
 use Rattle.convention.specs.declared.Judging.{Judging}
 use Rattle.convention.specs.Numbers.{stateLimit, judgingSays}
 use Rattle.convention.specs.Tables.{tableNo, tableOf}
+use Rattle.convention.specs.Built.{builtMost}
 use Rattle.convention.specs.Judged.{judgeRoom, Judges}
 use Rattle.convention.specs.Program.{line}
+use Rattle.line.specs.Lengths.{lineMost}
 
--- Room for every table, which has at most 8 kinds and 200 states, and for every line that the program prints.
+-- Room for every table; for the list of every verdict, 'judging, 2N bytes'; and for every
+-- line that the program prints.
 abbrev pub tableRoom : ℕ
-tableRoom = 6424
+tableRoom = builtMost stateLimit
+
+abbrev pub listRoom : ℕ
+listRoom = 2 * stateLimit
 
 abbrev pub lineRoom : ℕ
-lineRoom = 1024
+lineRoom = lineMost stateLimit listRoom
 
 -- The first n bytes of `out` are a text of which P holds.
 pub record TextIs (P : List ℕ → Type 0) (n : ℕ) (out : List ℕ) : Type 0 where

@@ -11,6 +11,15 @@ ghost use Rattle.convention.specs.Numbers.{judgingSays};
 ghost use Rattle.convention.specs.Program.{Prints};
 ghost use Rattle.judge_sheet.specs.Texts.{lineRoom, TextIs, TableAsks, TableLine};
 
+// `inputLimit`: the most bytes of an input that is looked at.
+const INPUT_LIMIT: usize = 1024;
+// `tableRoom`: the most bytes of a table.
+const TABLE_ROOM: usize = 6424;
+// `listRoom`: the most kinds of a verdict's list.
+const LIST_ROOM: usize = 400;
+// `lineRoom`: the most bytes of a line.
+const LINE_ROOM: usize = 818;
+
 // How many kinds the verdict's list has.
 fn list_length(verdict: Judging) -> usize
     ensures { λ n. ⌜ n ≡ judgingSays verdict .count ⌝ }
@@ -27,7 +36,7 @@ fn table_line(states: u16, kinds: u8, table: &[u8], out: &mut [u8]) -> usize
     requires { ⌜ TableAsks states kinds (now table) (now out) ⌝ }
     ensures { λ n. ⌜ TextIs (TableLine states kinds (now (table .entry))) n (now (out .exit)) ⌝ }
 {
-    let mut list = [0u8; 400];
+    let mut list = [0u8; LIST_ROOM];
     let verdict = judging::judge(table, &mut list);
     let n = list_length(verdict);
     let building = Building::Built(states, table.len());
@@ -39,11 +48,11 @@ fn answer(input: &[u8], out: &mut [u8]) -> usize
     requires { ⌜ lineRoom ≤ length (now out) ⌝ }
     ensures { λ n. ⌜ TextIs (Prints (now (input .entry))) n (now (out .exit)) ⌝ }
 {
-    if 1024 < input.len() {
+    if INPUT_LIMIT < input.len() {
         return line::write_refused(1, out);
     }
     let kinds = fields::head_of(input).kinds;
-    let mut table = [0u8; 6424];
+    let mut table = [0u8; TABLE_ROOM];
     let building = building::build(input, &mut table);
     match building {
         Building::Built(states, len) => table_line(states, kinds, &table[..len], out),
@@ -52,9 +61,9 @@ fn answer(input: &[u8], out: &mut [u8]) -> usize
 }
 
 fn main() {
-    let mut input = [0u8; 1025];
+    let mut input = [0u8; INPUT_LIMIT + 1];
     let read = io::read_full(STDIN_FILENO, &mut input);
-    let mut text = [0u8; 1024];
+    let mut text = [0u8; LINE_ROOM];
     let n = answer(&input[..read], &mut text);
     io::write_all(STDOUT_FILENO, &text[..n]);
 }

@@ -7,7 +7,8 @@ use mathlib.Core.Logic.{inl, inr}
 use mathlib.Core.List.{List, [], _∷_, _++_, map}
 use lib.ListN.{length}
 use Rattle.convention.specs.Orders.{Earlier, Before}
-use Rattle.convention.specs.Judged.{KindsBelow, eachKind, listsOf, listsUpTo}
+use Rattle.convention.specs.Lists.{KindsBelow}
+use Rattle.convention.specs.Judged.{eachKind, listsOf, listsUpTo}
 
 -- ---- several lists
 

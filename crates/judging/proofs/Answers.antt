@@ -7,7 +7,6 @@ use lib.Dec.{lit<}
 use lib.ListN.{length, take, drop, length-append, length-drop}
 use lib.Seq.{length-slice, take-length, take-at, drop-at}
 use borrow.Author.Tests.{lt-leb}
-use Rattle.convention.specs.declared.Offset.{Offset}
 use Rattle.convention.specs.declared.Table.{Table}
 use Rattle.convention.specs.declared.TableAnswer.{TableAnswer}
 use Rattle.convention.specs.declared.Reading.{Reading}
@@ -15,14 +14,14 @@ use Rattle.convention.specs.declared.Judging.{Judging}
 use Rattle.convention.specs.declared.Judging.the-variants.{Clean, Fault}
 use Rattle.convention.specs.Numbers.{stateLimit, reading}
 use Rattle.convention.specs.Tables.{tableNo, tableOf, readTable}
+use Rattle.convention.specs.Lists.{faultFrom}
 use Rattle.convention.specs.Walked.{byTable}
 use Rattle.convention.specs.Judged.{FaultyList, FirstFaulty, listFault, judgeNo, Judges}
 use Rattle.convention.specs.Promised.{TableRead}
 use Rattle.convention.proofs.Numbers.{or-here}
 use Rattle.convention.proofs.Lists.{below-known}
 use Rattle.convention.proofs.Tables.{table-read, table-right, table-is, table-refused, table-wrong}
-use Rattle.places.specs.Walks.{WalkIs}
-use Rattle.walking.specs.Asked.{WalkAsks}
+use Rattle.walking.specs.Asked.{KnownAsks, walkBegin}
 use Rattle.judging.specs.Watched.{nodes, LeastBelow}
 use Rattle.judging.specs.Memory.{bestEnd, listAt}
 use Rattle.judging.specs.Found.{FindAsks, BestIs, JudgeAsks}
@@ -93,19 +92,18 @@ module _ (table : Table) (t before out : List ℕ) (asks : JudgeAsks table t bef
       pub judge-counts : length (take n out′) ≡ n
       judge-counts = rw take-front long
 
-      pub judge-walks : WalkAsks table t (take n out′)
+      pub judge-walks : KnownAsks table t (take n out′)
       unfolding FaultyList
       judge-walks = record {
         read = judge-finds .read;
         known = rw (asks .is, take-front) (below-known (tableOf t .head .kinds) list (first .faulty .0));
-        few = rw judge-counts (omega (arith, best .short, judge-finds .read .states));
       }
 
-      -- and has the fault that its walk has.
-      pub judge-fault : (fault stop : ℕ) (p : Offset) → WalkIs (byTable table t) (take n out′) fault stop p → Judges stateLimit t out (Fault fault n) out′
+      -- and has the fault that is answered.
+      pub judge-fault : (fault : ℕ) → fault ≡ faultFrom (byTable table t) walkBegin (take n out′) → Judges stateLimit t out (Fault fault n) out′
       unfolding Judges
-      judge-fault fault stop p walked =
-          let says : fault ≡ listFault t list = rw (asks .is, take-front) at (walked .first) in
+      judge-fault fault e =
+          let says : fault ≡ listFault t list = rw (asks .is, take-front) at e in
           (number, rw (← asks .is) (best .short), rw (take-front, says) first, drop-front, long-front)
 
 -- ---- the reader's answer

@@ -1,5 +1,5 @@
 -- Laws of a list's fronts: a faulty list has its first fault at the last kind of a front of it, and no front of a list is after the list.
-use Prim.Native.Nat.{ℕ, zero, suc, _≤_, _<_}
+use Prim.Native.Nat.{ℕ, suc, _≤_, _<_}
 use native.Mathlib.Nat.{eq-zero-or-pos, suc-pred-eq-of-pos, eq-or-lt-of-le}
 use native.Mathlib.Omega.{arith}
 use mathlib.Core.Path.{_≡_, refl}
@@ -9,21 +9,8 @@ use lib.ListN.{length, getD, take}
 use lib.Seq.{take-suc, take-length, length-take-le}
 use Rattle.convention.specs.Lists.{Steps, faultFrom, stopFrom, stateFrom}
 use Rattle.convention.specs.Orders.{Before, NotAfter}
-use Rattle.convention.specs.Judged.{KindsBelow}
 use Rattle.convention.proofs.Numbers.{or-here}
 use Rattle.convention.proofs.Lists.{fault-append}
-
--- A list of known kinds stays one where a known kind is appended, and so do its fronts.
-pub below-snoc : (m : ℕ) (ks : List ℕ) (k : ℕ) → KindsBelow m ks → k < m → KindsBelow m (ks ++ k ∷ [])
-unfolding KindsBelow
-below-snoc m [] k known below = (below, tt)
-below-snoc m (j ∷ ks) k known below = (known .0, below-snoc m ks k (known .1) below)
-
-pub below-take : (m n : ℕ) (ks : List ℕ) → KindsBelow m ks → KindsBelow m (take n ks)
-unfolding KindsBelow
-below-take m zero ks known = tt
-below-take m (suc n) [] known = tt
-below-take m (suc n) (k ∷ ks) known = (known .0, below-take m n ks (known .1))
 
 -- A front is before the list, or the whole of it.
 pub front-before : (n : ℕ) (ks : List ℕ) → n < length ks → Before (take n ks) ks

@@ -13,17 +13,19 @@ use Rattle.convention.specs.Explored.{entry, path}
 use Rattle.convention.specs.Orders.{NotAfter}
 use Rattle.convention.specs.Promised.{TableRead}
 use Rattle.convention.proofs.Shortlex.{not-after-trans, not-after-snoc}
-use Rattle.convention.proofs.Exploring.{Sooner, leads, earliest, sooner-before, path-short}
+use Rattle.convention.specs.Scanned.{Sooner}
+use Rattle.convention.proofs.Numbered.{numbered-decides}
+use Rattle.convention.proofs.Exploring.{leads, earliest, sooner-before, path-short}
 use Rattle.judging.specs.declared.steps.Watch.{Watch}
-use Rattle.judging.specs.Watched.{watched, nodes, scan, Hit, FirstHit, NoHit, hitList}
-use Rattle.judging.proofs.Watched.{EndsFaulty, watched-decides, nodes-few}
+use Rattle.judging.specs.Watched.{watchedSteps, watched, nodes, scan, Hit, FirstHit, NoHit, hitList}
+use Rattle.judging.proofs.Watched.{EndsFaulty, watched-scanned, watched-tree, nodes-few}
 
 module _ (table : Table) (t : List ℕ) (watch : Watch) where
   -- The list of a hit ends faulty.
   pub hit-ends : (i k : ℕ) → Hit table t watch i k → EndsFaulty table t watch (path (watched table t watch) (scan table t watch) i) k
   hit-ends i k h = record {
     node = entry (watched table t watch) (scan table t watch) i .node;
-    leads = leads (watched table t watch) (watched-decides table t watch) (nodes table) i (h .inside);
+    leads = leads (watched table t watch) (scan table t watch) (watched-tree table t watch (nodes table)) i (h .inside);
     below = h .below;
     faulty = h .faulty;
   }
@@ -45,7 +47,7 @@ module _ (table : Table) (t : List ℕ) (watch : Watch) where
   lists-later : (i k : ℕ) → FirstHit table t watch i k → (j q : ℕ) → Hit table t watch j q → NotAfter (hitList table t watch i k) (hitList table t watch j q)
   lists-later i k f j q h = elim (hits-later i k f j q h) [
     | inl e ↦ inl (rw (e .0, e .1))
-    | inr o ↦ inr (sooner-before (watched table t watch) (watched-decides table t watch) (nodes table) i k j q (h .inside) o)
+    | inr o ↦ inr (sooner-before (watched table t watch) (scan table t watch) (watched-tree table t watch (nodes table)) i k j q (h .inside) o)
   ]
 
 module _ (limit : ℕ) (table : Table) (t : List ℕ) (read : TableRead limit table t) (watch : Watch) where
@@ -56,14 +58,14 @@ module _ (limit : ℕ) (table : Table) (t : List ℕ) (read : TableRead limit ta
   -- The list of a hit has at most 2N kinds.
   pub hit-short : (i k : ℕ) → Hit table t watch i k → length (hitList table t watch i k) ≤ nodes table
   hit-short i k h =
-      let short = path-short (watched table t watch) (watched-decides table t watch) (nodes table) i (h .inside) in
+      let short = path-short (watched table t watch) (scan table t watch) (watched-tree table t watch (nodes table)) i (h .inside) in
       rw length-append (omega (arith, short, whole, h .inside))
 
   -- A list that ends faulty has a hit whose list is not after it.
   pub ends-hit : (ks : List ℕ) (k : ℕ) → EndsFaulty table t watch ks k
       → (i : ℕ) × Hit table t watch i k × NotAfter (hitList table t watch i k) (ks ++ k ∷ [])
   ends-hit ks k f =
-      let (i, inside, node, n) = earliest (watched table t watch) (watched-decides table t watch) (nodes table) whole ks (f .node) (f .leads) in
+      let (i, inside, node, n) = earliest (watched table t watch) (numbered-decides (watchedSteps table t watch)) _ (nodes table) (watched-scanned table t watch (nodes table)) whole ks (f .node) (f .leads) in
       (i, record { inside = inside; below = f .below; faulty = rw node (f .faulty) }, not-after-snoc _ ks k n)
 
   -- So the first hit's list is not after any list that ends faulty,

@@ -7,10 +7,9 @@ pub mod Verdict
 pub mod Unique
 pub mod AllLists
 pub mod Trying
-pub mod Memory
-pub mod Held
 pub mod Stepping
 pub mod Searching
 pub mod Listing
 pub mod Finding
+pub mod Best
 pub mod Answers

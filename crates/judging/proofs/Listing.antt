@@ -1,112 +1,19 @@
--- One turn of each loop over the lists of the working memory, on plain values.
-use Prim.Native.Nat.{ℕ, suc, _+_, _-_, _*_, _/_, _%_, _≤_, _<_}
+-- Comparing the two lists of the working memory and keeping one, on plain values: one turn of each loop.
+use Prim.Native.Nat.{ℕ, suc, _+_, _-_, _*_, _≤_, _<_}
 use native.Mathlib.Numerals.{add-one}
 use native.Mathlib.Omega.{arith}
 use mathlib.Core.Path.{_≡_, refl, sym, ap, ap₂, _∙_}
 use mathlib.Core.Bool.{Bool, true, false, _||_, false≢true, true≢false}
 use mathlib.Core.Logic.{inl, inr, ⊎-map}
-use mathlib.Core.List.{List, [], _∷_, _++_, append-assoc}
+use mathlib.Core.List.{List, _∷_, _++_}
 use lib.Dec.{ltb, eqb}
-use lib.ListN.{length, getD, set, take, drop, length-set, length-append, List·getD-append}
-use lib.Seq.{paste, paste-zero, paste-suc, length-paste, take-paste, length-take-le, take-all, drop-at, getD-take, getD-drop, slice, slice-cons, slice-empty, length-slice, take-set-lt, drop-set-lt, getD-set-same}
+use lib.ListN.{length, getD, set, take, drop, length-append, List·getD-append}
+use lib.Seq.{paste, paste-zero, paste-suc, length-paste, take-paste, length-take-le, take-all, drop-at, getD-take, getD-drop, slice, slice-cons, slice-empty, length-slice}
 use borrow.Author.Tests.{ltb-true, ltb-false, eqb-true, eqb-false}
 use Rattle.convention.specs.Orders.{Earlier, Before}
 use Rattle.convention.proofs.Runs.{either}
-use Rattle.judging.specs.Memory.{wordAt, pairWord, foundEnd, bestEnd, listAt}
-use Rattle.judging.specs.Listed.{pairAt, TraceAsks, Traces, TraceIs, TraceLeft, ListsAsk, CompareIs, Comparing, ListAsks, kept, BetterIs}
-use Rattle.judging.proofs.Memory.{word-set}
-
--- One more byte written in front of a part.
-slice-set : (work : List ℕ) (at end b : ℕ) → at < end → end ≤ length work → slice at end (set work at b) ≡ b ∷ slice (suc at) end work
-slice-set work at end b h l =
-    slice-cons at end (set work at b) 0 h (rw length-set l)
-    ∙ rw (getD-set-same work at b 0 (omega arith), take-set-lt end work at b h, drop-set-lt (suc at) (take end work) at b (omega arith))
-
--- ---- writing the list found
-
-module _ (nodes : ℕ) (before : List ℕ) (i k : ℕ) (asks : TraceAsks nodes before i) where
-  -- The memory with the last kind.
-  abbrev first : List ℕ
-  first = set before (7 * nodes - 1) k
-
-  -- The last kind is written.
-  pub trace-begin : TraceLeft nodes first i i (7 * nodes - 1) first
-  trace-begin = record {
-    lower = omega arith;
-    within = omega (arith, asks .inside);
-    written = omega (arith, asks .inside);
-    pairs = λ q h. refl;
-    list = λ path tr. refl;
-    best = refl;
-    long = refl;
-  }
-
-  -- It left the pairs, so what is traced by them.
-  first-pair : (q : ℕ) → q < nodes → pairAt nodes first q ≡ pairAt nodes before q
-  first-pair q h = word-set before (7 * nodes - 1) k (2 * nodes + q) (omega arith)
-
-  first-traces : (path : ℕ → List ℕ) → Traces nodes before i path → Traces nodes first i path
-  first-traces path tr = record { start = tr .start; step = λ j h l. rw (first-pair j (omega (arith, asks .inside))) (tr .step j h l) }
-
-  module _ (j at : ℕ) (work : List ℕ) (left : TraceLeft nodes first i j at work) where
-    -- The memory is as long as before; the next pair and the byte in front are there.
-    pub trace-long : length work ≡ length before
-    trace-long = left .long ∙ length-set before (7 * nodes - 1) k
-
-    pub trace-read : 2 * (2 * nodes + j) + 1 < length work
-    trace-read = omega (arith, trace-long, asks .room .bytes, asks .inside, left .lower)
-
-    pub trace-write : at - 1 < length work
-    trace-write = omega (arith, trace-long, asks .room .bytes, left .written)
-
-    module _ (pair : ℕ) (h : 0 < j) (e : pair ≡ wordAt work (pairWord nodes j)) where
-      pair-here : pair ≡ pairAt nodes first j
-      pair-here = e ∙ left .pairs j (omega (arith, left .lower, asks .inside))
-
-      -- The pair's entry is lower.
-      pub trace-less : pair / 8 < j
-      trace-less = rw (pair-here ∙ first-pair j (omega (arith, left .lower, asks .inside))) (asks .falls j h (left .lower))
-
-      -- One more kind in front.
-      pub trace-turn : TraceLeft nodes first i (pair / 8) (at - 1) (set work (at - 1) (pair % 8))
-      trace-turn =
-          let less = trace-less in
-          let front : suc (at - 1) ≡ at = omega (arith, left .within) in
-          record {
-            lower = omega (arith, left .lower);
-            within = omega (arith, left .within);
-            written = omega (arith, left .written);
-            pairs = λ q b. word-set work (at - 1) (pair % 8) (2 * nodes + q) (omega (arith, left .within)) ∙ left .pairs q b;
-            list = λ path tr.
-                rw (slice-set work (at - 1) (foundEnd nodes) (pair % 8) (omega (arith, left .written)) (omega (arith, trace-long, asks .room .bytes)), front)
-                (longer path tr ∙ left .list path tr);
-            best = drop-set-lt (foundEnd nodes) work (at - 1) (pair % 8) (omega (arith, left .written)) ∙ left .best;
-            long = length-set work (at - 1) (pair % 8) ∙ left .long;
-          }
-        where
-          longer : (path : ℕ → List ℕ) → Traces nodes first i path
-              → path (pair / 8) ++ pair % 8 ∷ slice at (foundEnd nodes) work ≡ path j ++ slice at (foundEnd nodes) work
-          longer path tr = rw (tr .step j h (left .lower), ← pair-here, append-assoc)
-
-    -- The start is reached.
-    pub trace-end : j ≤ 0 → TraceIs nodes before i k (7 * nodes - at) work
-    trace-end h =
-        let back : 7 * nodes - (7 * nodes - at) ≡ at = omega (arith, left .written) in
-        record {
-          some = omega (arith, left .written);
-          short = omega (arith, left .within);
-          list = λ path tr. rw back (nothing path tr ∙ (left .list path (first-traces path tr) ∙ rw last));
-          best = left .best ∙ drop-set-lt (foundEnd nodes) before (7 * nodes - 1) k (omega (arith, asks .inside));
-        }
-      where
-        nothing : (path : ℕ → List ℕ) → Traces nodes before i path → slice at (foundEnd nodes) work ≡ path j ++ slice at (foundEnd nodes) work
-        nothing path tr = let none : j ≡ 0 = omega arith in rw (none, tr .start)
-
-        last : listAt first (foundEnd nodes) 1 ≡ k ∷ []
-        last =
-            let end : suc (7 * nodes - 1) ≡ 7 * nodes = omega (arith, asks .inside) in
-            slice-set before (7 * nodes - 1) (foundEnd nodes) k (omega (arith, asks .inside)) (omega (arith, asks .room .bytes))
-            ∙ rw (end, slice-empty (foundEnd nodes) before)
+use Rattle.judging.specs.Memory.{foundEnd, bestEnd, listAt}
+use Rattle.judging.specs.Listed.{ListsAsk, CompareIs, Comparing, KeepAsks, kept, BetterIs}
 
 -- ---- comparing the two lists
 
@@ -178,7 +85,7 @@ module _ (nodes : ℕ) (work : List ℕ) (found best : ℕ) (asks : ListsAsk nod
 
 -- ---- keeping the list found
 
-module _ (nodes : ℕ) (before : List ℕ) (found : ℕ) (asks : ListAsks nodes before found) where
+module _ (nodes : ℕ) (before : List ℕ) (found : ℕ) (asks : KeepAsks nodes before found) where
   abbrev list : List ℕ
   list = listAt before (foundEnd nodes) found
 
@@ -254,7 +161,7 @@ module _ (nodes : ℕ) (before : List ℕ) (found best : ℕ) where
     pub better-changes : ListsAsk nodes before found best → eqb best 0 || answer ≡ true → (after : List ℕ) → after ≡ kept nodes before found
         → BetterIs nodes before found best found after
     better-changes asks e after ea =
-        let asks′ : ListAsks nodes before found = record { room = asks .room; short = asks .short } in
+        let asks′ : KeepAsks nodes before found = record { room = asks .room; short = asks .short } in
         record {
           choice = inr (record {
             some = omega (arith, some);

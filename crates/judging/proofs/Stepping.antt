@@ -7,19 +7,19 @@ use mathlib.Core.List.{List}
 use lib.Dec.{eqb}
 use Rattle.convention.specs.declared.Head.{Head}
 use Rattle.convention.specs.declared.Reg.{Reg}
-use Rattle.convention.specs.declared.TableKind.{TableKind}
+use Rattle.convention.specs.declared.Shape.{Shape}
 use Rattle.convention.specs.declared.Table.{Table}
 use Rattle.convention.specs.declared.Transition.{Transition}
 use Rattle.convention.specs.Numbers.{stateLimit}
 use Rattle.convention.specs.Tables.{tableKind, transition}
 use Rattle.convention.specs.Rules.{noRegisters}
 use Rattle.convention.specs.Walked.{tableFault}
-use Rattle.walking.specs.Asked.{FaultAsks, ArgumentAsks}
+use Rattle.walking.specs.Asked.{FaultAsks}
 use Rattle.walking.proofs.Steps.{fault-asks}
 use Rattle.judging.specs.declared.steps.Watch.{Watch}
 use Rattle.judging.specs.declared.steps.Watch.the-variants.{Register, Nothing}
 use Rattle.judging.specs.Watched.{nodeState, nodeFlag, nodeOf, covers, givesWatched, watchedFault, nodeFault, nodeAfter}
-use Rattle.judging.specs.Searched.{StepAsks, StepIs}
+use Rattle.judging.specs.Searched.{WatchedStepAsks, WatchedStepIs}
 use Rattle.judging.proofs.Watched.{after-below}
 
 -- Whether a transition gives what is watched, by what that is.
@@ -33,7 +33,7 @@ module _ (x : Transition) (watch : Watch) where
   gives-nothing e = rw e
 
 -- What is watched is fault 2 where it is given once more; any other fault is there where nothing was given, too.
-module _ (h : Head) (kind : TableKind) (x : Transition) (again : Bool) where
+module _ (h : Head) (kind : Shape) (x : Transition) (again : Bool) where
   pub fault-again : again ≡ true → 2 ≡ watchedFault h kind x again
   unfolding watchedFault
   fault-again e = rw e
@@ -43,17 +43,14 @@ module _ (h : Head) (kind : TableKind) (x : Transition) (again : Bool) where
   fault-else fault e q = rw e q
 
 -- The step of a kind from a node of a table that was read.
-module _ (table : Table) (t : List ℕ) (node k : ℕ) (asks : StepAsks table t node k) (kind : TableKind) (x : Transition)
+module _ (table : Table) (t : List ℕ) (node k : ℕ) (asks : WatchedStepAsks table t node k) (kind : Shape) (x : Transition)
     (ek : kind ≡ tableKind table k) (ex : x ≡ transition table t (nodeState node) k) where
   pub step-asks : FaultAsks kind x
-  step-asks = fault-asks table t (record { state = nodeState node; given = noRegisters; p = record { 0 = 0 } }) k asked kind x ek ex
-    where
-      asked : ArgumentAsks table t (record { state = nodeState node; given = noRegisters; p = record { 0 = 0 } }) k
-      asked = record { read = asks .read; inside = record { state = omega (arith, asks .inside); kind = asks .below }; reach = omega arith }
+  step-asks = fault-asks table t (nodeState node) k (asks .read) (record { state = omega (arith, asks .inside); kind = asks .below }) kind x ek ex
 
   pub step-is : (watch : Watch) (h : Head) (here : Bool) (fault next : ℕ) → h ≡ table .head → here ≡ givesWatched x watch
       → fault ≡ watchedFault h kind x (nodeFlag node && here) → next ≡ nodeOf (x .next) (nodeFlag node || here)
-      → StepIs table t watch node k fault next
+      → WatchedStepIs table t watch node k fault next
   unfolding nodeFault nodeAfter
   step-is watch h here fault next eh eg ef en =
       let after : next ≡ nodeAfter table t watch node k = en ∙ rw (eg, ex) in

@@ -11,10 +11,10 @@ use lib.Seq.{take-append-seam, drop-append-seam}
 use Rattle.convention.specs.declared.Judging.{Judging}
 use Rattle.convention.specs.declared.Judging.the-variants.{Clean, Fault}
 use Rattle.convention.specs.Tables.{tableNo, tableOf}
-use Rattle.convention.specs.Lists.{Steps, faultFrom}
+use Rattle.convention.specs.Lists.{Steps, faultFrom, KindsBelow}
 use Rattle.convention.specs.Walked.{byTable}
 use Rattle.convention.specs.Orders.{Before}
-use Rattle.convention.specs.Judged.{KindsBelow, listFault, FaultyList, CleanTable, FirstFaulty, judgeRoom, judgeNo, Judges}
+use Rattle.convention.specs.Judged.{listFault, FaultyList, CleanTable, FirstFaulty, judgeRoom, judgeNo, Judges}
 use Rattle.convention.specs.Judged.{listsUpTo, Verdict, firstFault, verdictByTrying}
 use Rattle.convention.specs.Promised.{TableRead}
 use Rattle.convention.proofs.Shortlex.{before-irrefl, before-trans}

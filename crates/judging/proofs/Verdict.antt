@@ -14,11 +14,11 @@ use Rattle.convention.specs.Walked.{byTable}
 use Rattle.convention.specs.Orders.{NotAfter}
 use Rattle.convention.specs.Judged.{listFault, FaultyList, CleanTable, FirstFaulty, judgeRoom}
 use Rattle.convention.specs.Promised.{TableRead}
-use Rattle.convention.proofs.Lists.{below-at}
+use Rattle.convention.proofs.Lists.{below-at, below-take}
 use Rattle.convention.proofs.Shortlex.{not-after-trans, not-after-strict}
 use Rattle.judging.specs.declared.steps.Watch.{Watch}
 use Rattle.judging.specs.Watched.{Hit, hitList, WatchedBelow, NoHitBelow, LeastBelow}
-use Rattle.judging.proofs.Fronts.{below-take, front-before, front-not-after, stops, stop-faulty}
+use Rattle.judging.proofs.Fronts.{front-before, front-not-after, stops, stop-faulty}
 use Rattle.judging.proofs.Watched.{EndsFaulty, some-watches, watched-faulty}
 use Rattle.judging.proofs.Hits.{hit-ends, hit-short, ends-hit, first-hit, no-hit}
 

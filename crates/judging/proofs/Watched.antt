@@ -5,36 +5,39 @@ use native.Mathlib.Nat.{eq-zero-or-pos}
 use native.Mathlib.Omega.{arith}
 use mathlib.Core.Path.{_≡_, refl, sym, ap, _∙_}
 use mathlib.Core.Logic.{inl, inr}
-use mathlib.Core.Bool.{Bool, true, false, cond, _&&_, _||_, and-false, or-false, false≢true}
+use mathlib.Core.Bool.{Bool, true, false, _&&_, _||_, and-false, or-false, false≢true}
 use mathlib.Core.List.{List, [], _∷_, _++_}
 use lib.Dec.{eqb, lit<}
 use lib.ListN.{length, getD}
 use borrow.Author.Tests.{eqb-true, eq-eqb, ne-eqb}
 use Rattle.convention.specs.declared.Head.{Head}
-use Rattle.convention.specs.declared.TableKind.{TableKind}
+use Rattle.convention.specs.declared.Shape.{Shape}
 use Rattle.convention.specs.declared.Table.{Table}
 use Rattle.convention.specs.declared.Transition.{Transition}
 use Rattle.convention.specs.declared.ByTable.{ByTable}
 use Rattle.convention.specs.Numbers.{unless}
 use Rattle.convention.specs.Tables.{tableKind, transition}
-use Rattle.convention.specs.Rules.{freeRun, markRun, noRegisters}
-use Rattle.convention.specs.Lists.{faultFrom, stateFrom}
+use Rattle.convention.specs.Rules.{freeRun, noRegisters}
+use Rattle.convention.specs.Lists.{faultFrom, stateFrom, KindsBelow}
 use Rattle.convention.specs.Walked.{tableFault, tableAfter, byTable}
-use Rattle.convention.specs.Explored.{Automaton, entry, met, Leads}
-use Rattle.convention.specs.Judged.{KindsBelow}
+use Rattle.convention.specs.Explored.{met, Leads}
+use Rattle.convention.specs.Scanned.{Tree, Scanned}
 use Rattle.convention.specs.Promised.{TableRead}
 use Rattle.convention.proofs.Numbers.{or-zero, unless-zero}
 use Rattle.convention.proofs.Tables.{transition-registers, transition-next}
 use Rattle.convention.proofs.Runs.{either, free-some, none-taken}
-use Rattle.convention.proofs.Lists.{holds-along}
-use Rattle.convention.proofs.Exploring.{Decides, leads-unique, met-holds, few}
+use Rattle.convention.proofs.Walked.{step-gives}
+use Rattle.convention.proofs.Lists.{holds-along, below-snoc}
+use Rattle.convention.proofs.Leading.{leads-unique, leads-below}
+use Rattle.convention.proofs.Scanning.{met-scanned}
+use Rattle.convention.proofs.Numbered.{numbered-decides, Bounded, entries-few}
 use Rattle.walking.proofs.Given.{Walking, begin-walking, step-walking}
 use Rattle.judging.specs.declared.steps.Watch.{Watch}
 use Rattle.judging.specs.declared.steps.Watch.the-variants.{Register, Nothing}
 use Rattle.judging.specs.Watched.{nodeOf, nodeState, nodeFlag, givesWatched, watchedFault}
-use Rattle.judging.specs.Watched.{nodeFault, nodeAfter, watched, nodes, WatchedBelow}
+use Rattle.judging.specs.Watched.{nodeFault, nodeAfter, watchedSteps, watched, nodes, WatchedBelow}
 use Rattle.judging.proofs.Runs.{free-watched, in-run, mark-at}
-use Rattle.judging.proofs.Fronts.{below-snoc, snoc-faulty}
+use Rattle.judging.proofs.Fronts.{snoc-faulty}
 
 -- ---- one step
 
@@ -50,7 +53,7 @@ abbrev pub amongGiven : List Bool → Watch → Bool
 amongGiven given (Register r) = getD given (r .0) false
 amongGiven given Nothing = false
 
-module _ (h : Head) (kind : TableKind) (x : Transition) (given : List Bool) where
+module _ (h : Head) (kind : Shape) (x : Transition) (given : List Bool) where
   -- A step without a fault gives nothing that is watched once more, and has none where nothing was given,
   gives-new : (watch : Watch) → tableFault h kind x given ≡ 0 → amongGiven given watch && givesWatched x watch ≡ false
   unfolding tableFault givesWatched
@@ -90,15 +93,6 @@ module _ (h : Head) (kind : TableKind) (x : Transition) (given : List Bool) wher
     | inr f ↦ (Nothing, tt, rw f (rw f at p))
   ]
 
--- What a step gives: the registers of its run.
-step-gives : (h : Head) (x : Transition) (s : ByTable)
-    → tableAfter h x s .given ≡ cond (eqb (x .form) 1) (markRun (s .given) (x .a) (x .b)) (s .given)
-unfolding tableAfter
-step-gives h x s = elim (either (eqb (x .form) 1)) [
-  | inl f ↦ rw f
-  | inr f ↦ elim (either (eqb (x .form) 2)) [ inl g ↦ rw (f, g) | inr g ↦ rw (f, g) ]
-]
-
 -- Whether what is watched is among the given afterwards is what the watched walk says.
 given-after : (h : Head) (x : Transition) (s : ByTable) → (x .form ≡ 1 → x .a + x .b ≤ length (s .given)) → (watch : Watch)
     → amongGiven (s .given) watch || givesWatched x watch ≡ amongGiven (tableAfter h x s .given) watch
@@ -111,9 +105,12 @@ given-after h x s within (Register r) = rw (step-gives h x s) (elim (either (eqb
 
 -- ---- nodes
 
--- The test of two nodes tells whether they are the same.
-pub watched-decides : (table : Table) (t : List ℕ) (watch : Watch) → Decides (watched table t watch)
-watched-decides table t watch = record { same-eq = eqb-true; same-refl = λ a. eq-eqb a a refl }
+-- What is known of the scan, and of the entries that it meets.
+pub watched-scanned : (table : Table) (t : List ℕ) (watch : Watch) (n : ℕ) → Scanned (watched table t watch) (met (watched table t watch) n) n 0
+watched-scanned table t watch = met-scanned (watched table t watch) (numbered-decides (watchedSteps table t watch))
+
+pub watched-tree : (table : Table) (t : List ℕ) (watch : Watch) (n : ℕ) → Tree (watched table t watch) (met (watched table t watch) n)
+watched-tree table t watch n = watched-scanned table t watch n .tree
 
 -- A node keeps its state and its flag, and is below 2N where its state is below N.
 node-state : (state : ℕ) (flag : Bool) → nodeState (nodeOf state flag) ≡ state
@@ -164,12 +161,6 @@ pub record EndsFaulty (table : Table) (t : List ℕ) (watch : Watch) (ks : List 
   pub below : k < table .head .kinds
   pub faulty : 0 < nodeFault table t watch node k
 
--- A list that leads somewhere is one of known kinds.
-leads-below : (X : Automaton) (s : X .Node) (ks : List ℕ) (u : X .Node) → Leads X s ks u → KindsBelow (X .kinds) ks
-unfolding Leads KindsBelow
-leads-below X s [] u l = tt
-leads-below X s (k ∷ ks) u l = (l .0, leads-below X (X .next s k) ks u (l .2))
-
 module _ (limit : ℕ) (table : Table) (t : List ℕ) (read : TableRead limit table t) where
   -- What the reader promises of kind k's transition at a state.
   module _ (state k : ℕ) (known : state < table .states) (below : k < table .head .kinds) where
@@ -185,16 +176,13 @@ module _ (limit : ℕ) (table : Table) (t : List ℕ) (read : TableRead limit ta
   unfolding nodeAfter
   after-below watch node k h below = node-below _ (nodeFlag node || givesWatched _ watch) (table .states) (next-known (nodeState node) k (omega arith) below)
 
-  -- the nodes that are met are below 2N,
-  pub nodes-below : (watch : Watch) (n i : ℕ) → i < length (met (watched table t watch) n)
-      → entry (watched table t watch) (met (watched table t watch) n) i .node < nodes table
-  nodes-below watch n =
-      met-holds (watched table t watch) (watched-decides table t watch) n (λ node. node < nodes table) (omega (arith, read .some))
-      (λ node k h b _. after-below watch node k h b)
+  -- which bounds the nodes that are met;
+  pub watched-bounded : (watch : Watch) → Bounded (watchedSteps table t watch) (nodes table)
+  watched-bounded watch = record { some = omega (arith, read .some); next = λ node k h b _. after-below watch node k h b }
 
   -- so there are no more than 2N, however far the scan goes, and after 2N entries it is whole.
   pub nodes-few : (watch : Watch) (n : ℕ) → length (met (watched table t watch) n) ≤ nodes table
-  nodes-few watch n = few (watched table t watch) (watched-decides table t watch) n (λ node. node) (nodes table) (λ a b e. e) (nodes-below watch n)
+  nodes-few watch n = entries-few (watchedSteps table t watch) (nodes table) (watched-bounded watch) _ (watched-tree table t watch n)
 
   -- A watched walk steps with the walk.
   step-tied : (s : ByTable) (w : Walking table s) (k : ℕ) (below : k < table .head .kinds) (watch : Watch)

@@ -9,12 +9,12 @@ use Rattle.convention.specs.Tables.{tableNo, tableOf}
 use Rattle.convention.specs.Promised.{TableRead}
 use Rattle.judging.specs.declared.steps.Watch.{Watch}
 use Rattle.judging.specs.Watched.{nodes, FirstHit, NoHit, hitList, NoHitBelow, LeastBelow}
-use Rattle.judging.specs.Memory.{foundEnd, bestEnd, listAt, Room}
+use Rattle.judging.specs.Memory.{foundEnd, bestEnd, listAt, SearchRoom}
 
 -- A table that was read, and room to search it.
 pub record FindAsks (table : Table) (t work : List ℕ) : Type 0 where
   pub read : TableRead stateLimit table t
-  pub room : Room (nodes table) work
+  pub room : SearchRoom (nodes table) work
 
 -- The list of the first hit is found, of n kinds; nothing hits where n is 0. The best list is left.
 pub record FindIs (table : Table) (t : List ℕ) (watch : Watch) (before : List ℕ) (n : ℕ) (after : List ℕ) : Type 0 where
@@ -28,7 +28,7 @@ pub record BestIs (table : Table) (t : List ℕ) (upTo n : ℕ) (work : List ℕ
   pub none : n ≡ 0 → NoHitBelow table t upTo
   pub some : 0 < n → LeastBelow table t upTo (listAt work (bestEnd (nodes table)) n)
   pub short : n ≤ nodes table
-  pub room : Room (nodes table) work
+  pub room : SearchRoom (nodes table) work
 
 -- A table that was read from t, room to search it, and room for its list.
 pub record JudgeAsks (table : Table) (t work out : List ℕ) : Type 0 where

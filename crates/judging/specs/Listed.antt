@@ -1,50 +1,33 @@
 -- The two lists in the working memory: how one is written, how they are compared, and which is kept.
-use Prim.Native.Nat.{ℕ, _+_, _-_, _/_, _%_, _≤_, _<_}
+use Prim.Native.Nat.{ℕ, _+_, _-_, _≤_, _<_}
 use mathlib.Core.Path.{_≡_}
 use mathlib.Core.Bool.{Bool, true, false}
 use mathlib.Core.Logic.{_⊎_}
 use mathlib.Core.List.{List, [], _∷_, _++_}
-use lib.ListN.{length, drop}
+use lib.ListN.{drop}
 use lib.Seq.{slice, paste}
 use Rattle.convention.specs.Orders.{Earlier, Before, NotAfter}
-use Rattle.judging.specs.Memory.{wordAt, pairWord, listsAt, foundEnd, bestEnd, listAt, Room}
+use Rattle.convention.specs.Explored.{Numbered, numbered, Entry, path}
+use Rattle.convention.specs.Scanned.{Tree}
+use Rattle.exploring.specs.Stored.{Stored, PathAsks}
+use Rattle.judging.specs.Memory.{foundEnd, bestEnd, listAt, SearchRoom}
 
--- The pair that led to entry j, as the memory has it.
-abbrev pub pairAt : ℕ → List ℕ → ℕ → ℕ
-pairAt nodes work j = wordAt work (pairWord nodes j)
+-- The entries of a tree are held, and room for the path to entry i and one kind more as the list found.
+pub record FoundAsks (nodes : ℕ) (work : List ℕ) (i : ℕ) : Type 0 where
+  pub room : SearchRoom nodes work
+  pub path : PathAsks nodes work i (foundEnd nodes - 1)
 
--- Following the pairs from an entry: each leads to a lower one.
-pub record TraceAsks (nodes : ℕ) (work : List ℕ) (i : ℕ) : Type 0 where
-  pub room : Room nodes work
-  pub inside : i < nodes
-  pub falls : (j : ℕ) → 0 < j → j ≤ i → pairAt nodes work j / 8 < j
-
--- The kinds that lead to each entry up to i are those of its pair's entry, and then its pair's kind.
-pub record Traces (nodes : ℕ) (work : List ℕ) (i : ℕ) (path : ℕ → List ℕ) : Type 0 where
-  pub start : path 0 ≡ []
-  pub step : (j : ℕ) → 0 < j → j ≤ i → path j ≡ path (pairAt nodes work j / 8) ++ pairAt nodes work j % 8 ∷ []
-
--- The n kinds that lead to entry i and then kind k are written as the list found.
-pub record TraceIs (nodes : ℕ) (before : List ℕ) (i k n : ℕ) (after : List ℕ) : Type 0 where
+-- Whatever tree is held, entry i's path and then kind k are the list found, of n kinds. The best is left.
+pub record FoundIs (nodes : ℕ) (before : List ℕ) (i k n : ℕ) (after : List ℕ) : Type 0 where
   pub some : 0 < n
   pub short : n ≤ nodes
-  pub list : (path : ℕ → List ℕ) → Traces nodes before i path → listAt after (foundEnd nodes) n ≡ path i ++ k ∷ []
+  pub list : (N : Numbered) (l : List (Entry (numbered N))) (count : ℕ) → Stored N nodes l count before → Tree (numbered N) l → i < count
+      → listAt after (foundEnd nodes) n ≡ path (numbered N) l i ++ k ∷ []
   pub best : drop (foundEnd nodes) after ≡ drop (foundEnd nodes) before
-
--- Half way: the kinds behind those that lead to entry j are written from byte `at` on.
-pub record TraceLeft (nodes : ℕ) (before : List ℕ) (i j at : ℕ) (work : List ℕ) : Type 0 where
-  pub lower : j ≤ i
-  pub within : listsAt nodes + j ≤ at
-  pub written : at < foundEnd nodes
-  pub pairs : (q : ℕ) → q < nodes → pairAt nodes work q ≡ pairAt nodes before q
-  pub list : (path : ℕ → List ℕ) → Traces nodes before i path
-      → path j ++ slice at (foundEnd nodes) work ≡ path i ++ listAt before (foundEnd nodes) 1
-  pub best : drop (foundEnd nodes) work ≡ drop (foundEnd nodes) before
-  pub long : length work ≡ length before
 
 -- The list found, of so many kinds, and the best, of so many.
 pub record ListsAsk (nodes : ℕ) (work : List ℕ) (found best : ℕ) : Type 0 where
-  pub room : Room nodes work
+  pub room : SearchRoom nodes work
   pub short : found ≤ nodes
   pub short-best : best ≤ nodes
 
@@ -63,8 +46,8 @@ pub record Comparing (nodes : ℕ) (work : List ℕ) (found best at : ℕ) : Typ
       → NotAfter (listAt work (bestEnd nodes) best) (listAt work (foundEnd nodes) found)
 
 -- A list found, of so many kinds, and the memory once it is the best, too.
-pub record ListAsks (nodes : ℕ) (work : List ℕ) (found : ℕ) : Type 0 where
-  pub room : Room nodes work
+pub record KeepAsks (nodes : ℕ) (work : List ℕ) (found : ℕ) : Type 0 where
+  pub room : SearchRoom nodes work
   pub short : found ≤ nodes
 
 abbrev pub kept : ℕ → List ℕ → ℕ → List ℕ

@@ -10,7 +10,7 @@ use lib.Dec.{ltb, leb, eqb}
 use lib.ListN.{length}
 use Rattle.convention.specs.declared.Head.{Head}
 use Rattle.convention.specs.declared.Reg.{Reg}
-use Rattle.convention.specs.declared.TableKind.{TableKind}
+use Rattle.convention.specs.declared.Shape.{Shape}
 use Rattle.convention.specs.declared.Table.{Table}
 use Rattle.convention.specs.declared.Transition.{Transition}
 use Rattle.convention.specs.Numbers.{orElse, unless}
@@ -18,7 +18,7 @@ use Rattle.convention.specs.Tables.{tableKind, transition}
 use Rattle.convention.specs.Rules.{noRegisters}
 use Rattle.convention.specs.Walked.{tableFault}
 use Rattle.convention.specs.Orders.{NotAfter}
-use Rattle.convention.specs.Explored.{Automaton, Entry, entry, met, path}
+use Rattle.convention.specs.Explored.{Automaton, Numbered, numbered, Entry, entry, met, path}
 use Rattle.judging.specs.declared.steps.Watch.{Watch}
 use Rattle.judging.specs.declared.steps.Watch.the-variants.{Register, Nothing}
 
@@ -42,7 +42,7 @@ givesWatched x (Register r) = eqb (x .form) 1 && covers (x .a) (x .b) r
 givesWatched x Nothing = false
 
 -- The fault of a step as far as what is watched tells: 2 where that is given once more, and else that of a step before which nothing was given.
-unfoldable pub watchedFault : Head → TableKind → Transition → Bool → ℕ
+unfoldable pub watchedFault : Head → Shape → Transition → Bool → ℕ
 watchedFault h kind x again = orElse (unless (not again) 2) (tableFault h kind x noRegisters)
 
 -- The fault of kind k from a node, and where it leads: behind the step what is watched is given where it was before, or where the step gives it.
@@ -57,15 +57,11 @@ nodeAfter table t watch node k =
     nodeOf (x .next) (nodeFlag node || givesWatched x watch)
 
 -- The watched walk: state 0, with nothing given, first.
+abbrev pub watchedSteps : Table → List ℕ → Watch → Numbered
+watchedSteps table t watch = record { kinds = table .head .kinds; goes = λ node k. eqb (nodeFault table t watch node k) 0; next = nodeAfter table t watch }
+
 abbrev pub watched : Table → List ℕ → Watch → Automaton
-watched table t watch = record {
-  Node = ℕ;
-  same = eqb;
-  start = 0;
-  kinds = table .head .kinds;
-  goes = λ node k. eqb (nodeFault table t watch node k) 0;
-  next = nodeAfter table t watch;
-}
+watched table t watch = numbered (watchedSteps table t watch)
 
 -- How many nodes there are, and the entries of a whole scan.
 abbrev pub nodes : Table → ℕ

@@ -4,7 +4,6 @@
 mod lists;
 mod search;
 mod steps;
-mod words;
 
 use convention::Judging;
 use convention::Reading;
@@ -16,13 +15,13 @@ ghost use Rattle.convention.specs.Judged.{Judges};
 ghost use Rattle.judging.specs.Found.{FindAsks, FindIs, BestIs, JudgeAsks};
 
 // Finds the first faulty list of a watched walk. Answers how many kinds it has, 0 where there is none.
-fn find(table: Table, t: &[u8], watch: Watch, work: &mut [u8]) -> usize
+fn find_list(table: Table, t: &[u8], watch: Watch, work: &mut [u8]) -> usize
     requires { ⌜ FindAsks table (now t) (now work) ⌝ }
     ensures { λ n. ⌜ FindIs table (now (t .entry)) watch (now (work .entry)) n (now (work .exit)) ⌝ }
 {
     let kinds = table.head.kinds;
     let nodes = 2 * table.states as usize;
-    words::start(work, nodes);
+    exploring::start(work, nodes);
     let found = search::search(table, t, watch, work);
     if found.kind < kinds {
         return lists::write_found(work, nodes, found.entry, found.kind);
@@ -36,7 +35,7 @@ fn first_list(table: Table, t: &[u8], work: &mut [u8]) -> usize
     ensures { λ n. ⌜ BestIs table (now (t .entry)) 0 n (now (work .exit)) ⌝ }
 {
     let nodes = 2 * table.states as usize;
-    let found = find(table, t, Watch::Nothing, work);
+    let found = find_list(table, t, Watch::Nothing, work);
     lists::keep(work, nodes, found);
     found
 }
@@ -52,7 +51,7 @@ fn least_list(table: Table, t: &[u8], work: &mut [u8]) -> usize
     let mut best = first_list(table, t, work);
     let mut i: u8 = 0;
     while i < registers {
-        let found = find(table, t, Watch::Register(Reg(i)), work);
+        let found = find_list(table, t, Watch::Register(Reg(i)), work);
         best = lists::better(work, nodes, found, best);
         i += 1;
     }
@@ -72,8 +71,8 @@ fn judge_read(table: Table, t: &[u8], work: &mut [u8], out: &mut [u8]) -> Judgin
     let end = 8 * nodes;
     let at = end - n;
     bytes::copy(&work[at..end], out);
-    let walk = walking::walk(table, t, &out[..n]);
-    Judging::Fault(walk.fault, n)
+    let fault = walking::list_fault(table, t, &out[..n]);
+    Judging::Fault(fault, n)
 }
 
 // Judges a table: clean, or the first faulty list in the first bytes of `out`, shorter lists first and those of one length in

@@ -1,24 +1,16 @@
 // The two lists of the working memory, the one found last and the best, each in the last bytes of its part.
 ghost use mathlib.Core.Path.{_≡_};
-ghost use Rattle.judging.specs.Listed.{TraceAsks, TraceIs, ListsAsk, CompareIs, ListAsks, kept, BetterIs};
-use crate::words;
+ghost use Rattle.judging.specs.Listed.{FoundAsks, FoundIs, ListsAsk, CompareIs, KeepAsks, kept, BetterIs};
 
-// Writes the kinds that led to an entry, and then a kind, as the list found: from its end, by the pairs, to the start. Answers
-// how many kinds it has.
+// Writes the kinds that led to an entry, and then a kind, as the list found. Answers how many kinds it has.
 pub(crate) fn write_found(work: &mut [u8], nodes: usize, entry: usize, kind: u8) -> usize
-    requires { ⌜ TraceAsks nodes (now work) entry ⌝ }
-    ensures { λ n. ⌜ TraceIs nodes (now (work .entry)) entry kind n (now (work .exit)) ⌝ }
+    requires { ⌜ FoundAsks nodes (now work) entry ⌝ }
+    ensures { λ n. ⌜ FoundIs nodes (now (work .entry)) entry kind n (now (work .exit)) ⌝ }
 {
     let end = 7 * nodes;
-    let mut at = end - 1;
-    work[at] = kind;
-    let mut i = entry;
-    while 0 < i {
-        let pair = words::read_word(work, 2 * nodes + i);
-        at -= 1;
-        work[at] = (pair % 8) as u8;
-        i = pair / 8;
-    }
+    let last = end - 1;
+    let at = exploring::write_path(work, nodes, entry, last);
+    work[last] = kind;
     end - at
 }
 
@@ -43,7 +35,7 @@ fn is_before(work: &[u8], nodes: usize, found: usize, best: usize) -> bool
 
 // Makes the list found the best.
 pub(crate) fn keep(work: &mut [u8], nodes: usize, found: usize)
-    requires { ⌜ ListAsks nodes (now work) found ⌝ }
+    requires { ⌜ KeepAsks nodes (now work) found ⌝ }
     ensures { λ _. ⌜ now (work .exit) ≡ kept nodes (now (work .entry)) found ⌝ }
 {
     let from = 7 * nodes - found;

@@ -1,19 +1,18 @@
 // The search for the first faulty kind of the walk that watches a register, or nothing: breadth first over the nodes, in the
 // order of meeting, and at each node the kinds in order.
 use convention::Table;
-ghost use Rattle.judging.specs.Searched.{VisitAsks, VisitIs, SearchAsks, SearchIs};
+ghost use Rattle.judging.specs.Searched.{ThroughAsks, ThroughIs, SearchAsks, SearchIs};
 use crate::steps;
 use crate::steps::Watch;
-use crate::words;
 
 // How far an entry was gone through: the first faulty kind, the number of kinds where none is, and how many entries there are then.
-struct Visited {
+struct GoneThrough {
     kind: u8,
     count: usize,
 }
 
 // Goes through the kinds from entry i, whose node it is, up to the first that is faulty, and meets where they lead.
-fn visit(
+fn go_through(
     table: Table,
     t: &[u8],
     watch: Watch,
@@ -21,9 +20,9 @@ fn visit(
     i: usize,
     node: usize,
     count: usize,
-) -> Visited
-    requires { ⌜ VisitAsks table (now t) watch i node count (now work) ⌝ }
-    ensures { λ v. ⌜ VisitIs table (now (t .entry)) watch i (now (work .entry)) (v .kind) (v .count) (now (work .exit)) ⌝ }
+) -> GoneThrough
+    requires { ⌜ ThroughAsks table (now t) watch i node count (now work) ⌝ }
+    ensures { λ v. ⌜ ThroughIs table (now (t .entry)) watch i (now (work .entry)) (v .kind) (v .count) (now (work .exit)) ⌝ }
 {
     let kinds = table.head.kinds;
     let nodes = 2 * table.states as usize;
@@ -32,15 +31,16 @@ fn visit(
     while k < kinds {
         let step = steps::step(table, t, watch, node, k);
         if step.fault != 0 {
-            return Visited {
+            return GoneThrough {
                 kind: k,
                 count: met,
             };
         }
-        met = words::meet(work, nodes, met, step.next, 8 * i + k as usize);
+        let number = exploring::meet(work, nodes, met, step.next, i, k);
+        met = exploring::count_after(met, number);
         k += 1;
     }
-    Visited {
+    GoneThrough {
         kind: k,
         count: met,
     }
@@ -62,15 +62,15 @@ pub(crate) fn search(table: Table, t: &[u8], watch: Watch, work: &mut [u8]) -> F
     let mut count = 1;
     let mut i = 0;
     while i < count {
-        let node = words::read_word(work, nodes + i);
-        let visited = visit(table, t, watch, work, i, node, count);
-        if visited.kind < kinds {
+        let node = exploring::entry_node(work, nodes, i);
+        let through = go_through(table, t, watch, work, i, node, count);
+        if through.kind < kinds {
             return Found {
                 entry: i,
-                kind: visited.kind,
+                kind: through.kind,
             };
         }
-        count = visited.count;
+        count = through.count;
         i += 1;
     }
     Found {

@@ -1,7 +1,8 @@
--- How long a line and its parts are, and that the lines of the program are short.
-use Prim.Native.Nat.{ℕ, _+_, _*_, _/_, _≤_, _<_}
+-- How long a line and its parts are, and how long they are at most.
+use Prim.Native.Nat.{ℕ, zero, suc, _+_, _*_, _/_, _^_, _≤_, _<_}
 use mathlib.Core.Path.{_≡_, refl}
 use mathlib.Core.List.{List, [], _∷_}
+use native.Mathlib.Nat.{le-refl, pow-suc}
 use native.Mathlib.Decide.{decLt}
 use native.Mathlib.Omega.{arith}
 use lib.ListN.{length, length-append}
@@ -9,9 +10,10 @@ use Rattle.convention.specs.declared.Building.the-variants.{Built}
 use Rattle.convention.specs.declared.Judging.{Judging}
 use Rattle.convention.specs.declared.Judging.the-variants.{Clean, Fault}
 use Rattle.convention.specs.Numbers.{judgingSays}
-use Rattle.convention.specs.Judged.{KindsBelow}
+use Rattle.convention.specs.Lists.{KindsBelow}
 use Rattle.convention.specs.Program.{decimal, kindFields, verdictFields, refusedLine, line}
 use Rattle.line.specs.Appended.{Room}
+use Rattle.line.specs.Lengths.{digits, lineMost}
 use Rattle.line.proofs.Digits.{decimal-one, decimal-more}
 
 -- A line and its fields, part by part; and the same where there is room for them.
@@ -41,39 +43,60 @@ module _ (out : List ℕ) (at : ℕ) where
       → at + (length (decimal n) + (1 + length (decimal m)) + length (verdictFields verdict list) + 1) ≤ length out
   built-fits n len m verdict list room = rw (← built-long n len m verdict list) (room .fits)
 
--- A number below a thousand has at most three digits; a kind below ten has one.
-one-digit : (n : ℕ) → n < 10 → length (decimal n) ≡ 1
-one-digit n h = rw (decimal-one n h)
+-- A number from ten on has one digit more than its tenth.
+tenth-digits : (n : ℕ) → 10 ≤ n → digits n ≡ digits (n / 10) + 1
+tenth-digits n h = rw (decimal-more n h, length-append)
 
-one-more : (n k : ℕ) → (10 ≤ n → length (decimal (n / 10)) ≤ k) → length (decimal n) ≤ k + 1
-one-more n k tenth =
+-- A number below 10 ^ d has at most d digits.
+pub digits-below : (d n : ℕ) → 0 < d → n < 10 ^ d → digits n ≤ d
+digits-below zero n some h = absurd (omega arith)
+digits-below (suc zero) n some h = rw (decimal-one n (omega arith)) (omega arith)
+digits-below (suc (suc d)) n some h =
     elim (decLt n 10) [
-      | yes h ↦ omega (arith, one-digit n h)
-      | no h ↦ rw (decimal-more n (omega arith), length-append) (omega (arith, tenth (omega arith)))
+      | yes l ↦ rw (decimal-one n l) (omega arith)
+      | no l ↦
+          let less : n < 10 ^ suc d * 10 = rw (← pow-suc 10 (suc d)) h in
+          omega (arith, tenth-digits n (omega arith), digits-below (suc d) (n / 10) (omega arith) (omega arith))
     ]
 
-three-digits : (n : ℕ) → n < 1000 → length (decimal n) ≤ 3
-three-digits n h = one-more n 2 λ _. one-more (n / 10) 1 λ _. omega (arith, one-digit (n / 10 / 10) (omega arith))
+-- A number has no more digits than a larger one.
+digits-most : (most n : ℕ) → n ≤ most → digits n ≤ digits most
+digits-most most n h = go most most n (le-refl most) h
+  where
+    go : (turns most n : ℕ) → most ≤ turns → n ≤ most → digits n ≤ digits most
+    go zero most n t h = rw (decimal-one n (omega arith), decimal-one most (omega arith)) (omega arith)
+    go (suc turns) most n t h =
+        elim (decLt most 10) [
+          | yes l ↦ rw (decimal-one n (omega arith), decimal-one most l) (omega arith)
+          | no l ↦
+              elim (decLt n 10) [
+                | yes k ↦ rw (decimal-one n k) (omega (arith, tenth-digits most (omega arith)))
+                | no k ↦
+                    omega (arith, tenth-digits n (omega arith), tenth-digits most (omega arith), go turns (most / 10) (n / 10) (omega arith) (omega arith))
+              ]
+        ]
 
+-- Kinds of one digit.
 kinds-long : (list : List ℕ) → KindsBelow 10 list → length (kindFields list) ≡ 2 * length list
 unfolding KindsBelow kindFields
 kinds-long [] below = refl
-kinds-long (k ∷ list) below = rw (length-append, kinds-long list (below .1), one-digit k (below .0)) (omega arith)
+kinds-long (k ∷ list) below = rw (length-append, kinds-long list (below .1), decimal-one k (below .0)) (omega arith)
 
--- So room for 1,024 bytes is enough for a refusal, and for the line of a table with a list of at most 400 kinds.
-pub refused-short : (number : ℕ) → number < 1000 → length (refusedLine number) ≤ 1024
-refused-short number h = omega (arith, refused-long number, three-digits number h)
+-- So the line of a refusal, and that of a table, have at most so many bytes.
+pub refused-most : (d number : ℕ) → 0 < d → number < 10 ^ d → length (refusedLine number) ≤ 7 + (1 + d) + 1
+refused-most d number some h = omega (arith, refused-long number, digits-below d number some h)
 
-verdict-short : (verdict : Judging) (list : List ℕ) → judgingSays verdict .fault < 1000 → judgingSays verdict .count < 1000
-    → KindsBelow 10 list → length list ≤ 400 → length (verdictFields verdict list) ≤ 900
+verdict-most : (most : ℕ) (verdict : Judging) (list : List ℕ) → judgingSays verdict .fault < 10 → judgingSays verdict .count ≤ most
+    → KindsBelow 10 list → length list ≤ most → length (verdictFields verdict list) ≤ 6 + 2 + (1 + digits most) + 2 * most
 unfolding verdictFields
-verdict-short Clean list f c below few = omega arith
-verdict-short (Fault fault n) list f c below few =
-    omega (arith, fault-long fault n list, three-digits fault f, three-digits n c, kinds-long list below)
-verdict-short (Judging.Refused number) list f c below few = omega arith
+verdict-most most Clean list f c below few = omega arith
+verdict-most most (Fault fault n) list f c below few =
+    omega (arith, fault-long fault n list, digits-below 1 fault (omega arith) f, digits-most most n c, kinds-long list below)
+verdict-most most (Judging.Refused number) list f c below few = omega arith
 
-pub built-short : (n len m : ℕ) (verdict : Judging) (list : List ℕ) → n < 1000 → m < 1000
-    → judgingSays verdict .fault < 1000 → judgingSays verdict .count < 1000 → KindsBelow 10 list → length list ≤ 400
-    → length (line (Built n len) m verdict list) ≤ 1024
-built-short n len m verdict list hn hm f c below few =
-    omega (arith, built-long n len m verdict list, three-digits n hn, three-digits m hm, verdict-short verdict list f c below few)
+pub line-most : (limit most n len m : ℕ) (verdict : Judging) (list : List ℕ) → n ≤ limit → m < 10
+    → judgingSays verdict .fault < 10 → judgingSays verdict .count ≤ most → KindsBelow 10 list → length list ≤ most
+    → length (line (Built n len) m verdict list) ≤ lineMost limit most
+line-most limit most n len m verdict list hn hm f c below few =
+    omega
+    (arith, built-long n len m verdict list, digits-most limit n hn, digits-below 1 m (omega arith) hm, verdict-most most verdict list f c below few)

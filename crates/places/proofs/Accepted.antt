@@ -10,8 +10,7 @@ use borrow.Author.Tests.{leb-true, ltb-false}
 use Rattle.convention.specs.declared.Offset.{Offset}
 use Rattle.convention.specs.declared.Placing.{Placing}
 use Rattle.convention.specs.declared.Placing.the-variants.{Placed, Unknown}
-use Rattle.convention.specs.Lists.{Steps, faultFrom, stopFrom, stateFrom, unknownAt, walkAnswer, placingAnswer, placing}
-use Rattle.convention.specs.Judged.{KindsBelow}
+use Rattle.convention.specs.Lists.{Steps, faultFrom, stopFrom, stateFrom, unknownAt, walkAnswer, placingAnswer, placing, KindsBelow}
 use Rattle.convention.proofs.Numbers.{or-zero, unless-zero}
 use Rattle.convention.proofs.Lists.{known-below, unknown-le}
 

@@ -10,9 +10,8 @@ use lib.ListN.{length, getD, set}
 use Rattle.convention.specs.declared.Offset.{Offset}
 use Rattle.convention.specs.declared.Placement.{Placement}
 use Rattle.convention.specs.declared.Placement.the-variants.{Registers, Stack, Nowhere}
-use Rattle.convention.specs.Lists.{Steps, faultFrom, placesFrom}
+use Rattle.convention.specs.Lists.{Steps, faultFrom, placesFrom, KindsBelow}
 use Rattle.convention.specs.Rules.{freeRun, markRun, placeTaken, placeP}
-use Rattle.convention.specs.Judged.{KindsBelow}
 use Rattle.convention.specs.WellPlaced.{HasRegister, HasByte, Share}
 use Rattle.convention.proofs.Numbers.{or-zero}
 use Rattle.convention.proofs.Runs.{free-each, mark-in}

@@ -4,5 +4,6 @@ pub mod Lists
 pub mod Records
 pub mod Runs
 pub mod Walks
+pub mod Calls
 pub mod Apart
 pub mod Accepted

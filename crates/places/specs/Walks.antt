@@ -1,11 +1,19 @@
--- What both placers promise of going through a list, over either way of placing: the walk that looks for a fault, and the one that writes.
+-- What both placers promise of placing a list, over either way of placing: its tests, the walk that looks for a fault, and the one that writes.
 use Prim.Native.Nat.{ℕ, _+_, _*_, _≤_}
 use mathlib.Core.Path.{_≡_}
+use mathlib.Core.Bool.{cond}
 use mathlib.Core.List.{List, _++_}
+use lib.Dec.{leb, eqb}
 use lib.ListN.{length, take, drop}
 use Rattle.convention.specs.declared.Offset.{Offset}
 use Rattle.convention.specs.declared.Placing.{Placing}
-use Rattle.convention.specs.Lists.{Steps, faultFrom, stopFrom, stateFrom, placesFrom, recordsOf, recordLength, records, listNo, placing, placingMemory}
+use Rattle.convention.specs.declared.Placing.the-variants.{Unknown}
+use Rattle.convention.specs.Numbers.{orElse, unless}
+use Rattle.convention.specs.Lists.{Steps, faultFrom, stopFrom, stateFrom, placesFrom, recordsOf, recordLength, records, unknownAt, listNo, placing, placingMemory}
+
+-- The most that p grows by in a step: 15 bytes that are skipped and 64 that are taken.
+abbrev pub stepMost : ℕ
+stepMost = 79
 
 -- The whole walk: its fault and where it stops, and p where nothing is faulty.
 pub record WalkIs (M : Steps) (ks : List ℕ) (fault stop : ℕ) (p : Offset) : Type 0 where
@@ -26,16 +34,32 @@ pub record WriteLeft (M : Steps) (ks : List ℕ) (before : List ℕ) (s : M .Sta
   pub within : i ≤ length ks
   pub written : out ≡ take (recordLength * i) (records M ks) ++ drop (recordLength * i) before
   pub rest : recordsOf (placesFrom M s (drop i ks)) ≡ drop (recordLength * i) (records M ks)
+  pub long : length out ≡ length before
 
 -- The records of a list in front of what stood behind them.
 abbrev pub recordsBefore : (M : Steps) → List ℕ → List ℕ → List ℕ
 recordsBefore M ks before = records M ks ++ drop (length (records M ks)) before
 
--- The number of so many arguments with so much room; where it is 0 they are few enough, and have room.
-pub record ListTested (limit arguments room number : ℕ) : Type 0 where
-  pub is : number ≡ listNo limit arguments room
-  pub short : number ≡ 0 → arguments ≤ limit
-  pub roomy : number ≡ 0 → recordLength * arguments ≤ room
+-- A list of known kinds, of no more arguments than the limit.
+pub record Listed (limit m : ℕ) (ks : List ℕ) : Type 0 where
+  pub known : unknownAt m ks ≡ length ks
+  pub short : length ks ≤ limit
+
+-- The number of the first test that a list fails, 'Then, placing: 8, 12, 9'; 0 where it fails none.
+abbrev pub testNo : ℕ → ℕ → List ℕ → ℕ → ℕ
+testNo limit m ks room = orElse (listNo limit (length ks) room) (unless (leb (length ks) (unknownAt m ks)) 9)
+
+-- What a list was found to be by its tests: their number, with 9 the first unknown kind's position; where it is 0 the list can be placed,
+-- and its records have room.
+pub record ListTested (limit m : ℕ) (ks : List ℕ) (room number at : ℕ) : Type 0 where
+  pub is : number ≡ testNo limit m ks room
+  pub position : number ≡ 9 → at ≡ unknownAt m ks
+  pub listed : number ≡ 0 → Listed limit m ks
+  pub roomy : number ≡ 0 → recordLength * length ks ≤ room
+
+-- The answer of a list that failed a test: 9 with the position, or the number alone.
+abbrev pub refusalAnswer : ℕ → ℕ → Placing
+refusalAnswer number at = cond (eqb number 9) (Unknown at) (Placing.Refused number)
 
 -- The answer of placing by a convention of m kinds that was read, and the lent memory afterwards.
 pub record PlacingIs (limit m : ℕ) (M : Steps) (ks before : List ℕ) (answer : Placing) (after : List ℕ) : Type 0 where

@@ -1,19 +1,20 @@
 // What placing by the rules and placing by a table have in common: runs of registers, the least offset, the tests of a list's
-// length, room and kinds, a placement's record, and what a placement takes.
+// length, room and kinds, the answer of a walk, a placement's record, and what a placement takes.
 use convention::Offset;
 use convention::Placement;
+use convention::Placing;
 use convention::Reg;
+use convention::Spelling;
 ghost use mathlib.Core.Path.{_≡_};
 ghost use Prim.Native.Nat.{_+_, _≤_, _<_, _^_};
-ghost use mathlib.Core.List.{[], _∷_, _++_};
 ghost use lib.ListN.{length};
 ghost use Rattle.convention.specs.Offsets.{leastOffset};
-ghost use Rattle.convention.specs.Bytes.{fourBytes, written};
-ghost use Rattle.convention.specs.Lists.{unknownAt, recordOf};
-ghost use Rattle.convention.specs.Rules.{freeRun, markRun, placeTaken, placeP};
+ghost use Rattle.convention.specs.Bytes.{written};
+ghost use Rattle.convention.specs.Lists.{unknownAt, listNo, spelled, recordOf, walkAnswer};
+ghost use Rattle.convention.specs.Rules.{freeRun, markRun, placeFault, placeTaken, placeP};
 ghost use Rattle.convention.specs.Numbers.{argumentLimit};
 ghost use Rattle.places.specs.Ends.{runEnd, stackEnd};
-ghost use Rattle.places.specs.Walks.{ListTested};
+ghost use Rattle.places.specs.Walks.{ListTested, refusalAnswer};
 
 // What going through a list found: the fault of the first faulty step and its position; or 0, and the final p.
 pub struct Walk {
@@ -69,8 +70,8 @@ pub fn least_offset(modulus: u8, residue: u8, p: Offset) -> Offset
 
 // The number of a list of so many arguments with so much room, before its kinds are looked at: 8 where there are more than
 // 400, then 12 where their records have no room.
-pub fn list_no(arguments: usize, room: usize) -> u8
-    ensures { λ r. ⌜ ListTested argumentLimit arguments room r ⌝ }
+fn list_no(arguments: usize, room: usize) -> u8
+    ensures { λ r. ⌜ r ≡ listNo argumentLimit arguments room ⌝ }
 {
     let many = fields::unless(arguments <= 400, 8);
     let narrow = fields::unless(arguments <= room / 6, 12);
@@ -78,7 +79,7 @@ pub fn list_no(arguments: usize, room: usize) -> u8
 }
 
 // The first position of a kind number of `kinds` or more; the list's length where there is none.
-pub fn unknown_at(kinds: u8, list: &[u8]) -> usize
+fn unknown_at(kinds: u8, list: &[u8]) -> usize
     ensures { λ r. ⌜ r ≡ unknownAt kinds (now (list .entry)) ⌝ }
 {
     let mut at = 0;
@@ -91,29 +92,95 @@ pub fn unknown_at(kinds: u8, list: &[u8]) -> usize
     at
 }
 
+// The number of the first test that a list fails, with 9 the position of its first unknown kind; or 0.
+pub struct Tested {
+    pub number: u8,
+    pub at: usize,
+}
+
+// Tests a list before it is placed, in 01's order: 8, 12, 9. A list of number 0 has known kinds alone, is short enough, and
+// its records have room.
+pub fn test_list(kinds: u8, list: &[u8], room: usize) -> Tested
+    ensures { λ r. ⌜ ListTested argumentLimit kinds (now (list .entry)) room (r .number) (r .at) ⌝ }
+{
+    let n = list.len();
+    let number = list_no(n, room);
+    if number != 0 {
+        return Tested { number, at: 0 };
+    }
+    let at = unknown_at(kinds, list);
+    if at < n {
+        return Tested { number: 9, at };
+    }
+    Tested { number: 0, at }
+}
+
+// What a list answers that failed a test.
+pub fn refusal_answer(tested: Tested) -> Placing
+    ensures { λ r. ⌜ r ≡ refusalAnswer (tested .number) (tested .at) ⌝ }
+{
+    if tested.number == 9 {
+        return Placing::Unknown(tested.at);
+    }
+    Placing::Refused(tested.number)
+}
+
+// What a walk answers: number 10, or success with the number of arguments and the final p.
+pub fn walk_answer(walked: Walk, count: usize) -> Placing
+    ensures { λ r. ⌜ r ≡ walkAnswer (walked .fault) (walked .stop) count (walked .p) ⌝ }
+{
+    if walked.fault != 0 {
+        return Placing::Faulty(walked.stop, walked.fault);
+    }
+    let p = walked.p;
+    Placing::Placed(count, p)
+}
+
+// What a placement is made of. That a first register is a byte is said here, since its number has room for an offset.
+pub fn spell(place: Placement) -> Spelling
+    ensures { λ r. ⌜ r ≡ spelled place ⌝ }
+    ensures { λ r. ⌜ ((r .form ≡ 2 → ⊥) → r .number < 256) ⌝ }
+{
+    match place {
+        Placement::Registers(first, count) => Spelling {
+            form: 1,
+            number: first.0 as u32,
+            count,
+        },
+        Placement::Stack(offset, count) => Spelling {
+            form: 2,
+            number: offset.0,
+            count,
+        },
+        Placement::Nowhere => Spelling {
+            form: 0,
+            number: 0,
+            count: 0,
+        },
+    }
+}
+
+// The fault of a place by the rules: 1 where there is none.
+pub fn place_fault(place: Placement) -> u8
+    ensures { λ r. ⌜ r ≡ placeFault place ⌝ }
+{
+    let told = spell(place);
+    fields::unless(0 < told.form, 1)
+}
+
 // Writes the six bytes of a placement's record from byte `at` on.
 pub fn write_record(place: Placement, out: &mut [u8], at: usize)
     requires { ⌜ at + 6 ≤ length (now out) ⌝ }
     ensures { λ _. ⌜ now (out .exit) ≡ written (now (out .entry)) at (recordOf place) ⌝ }
 {
-    match place {
-        Placement::Registers(first, count) => write_fields(1, first.0 as u32, count, out, at),
-        Placement::Stack(offset, count) => write_fields(2, offset.0, count, out, at),
-        Placement::Nowhere => write_fields(0, 0, 0, out, at),
-    }
-}
-
-// A record's fields, one behind the other. Private: only a placement says which fields belong together.
-fn write_fields(form: u8, number: u32, count: u8, out: &mut [u8], at: usize)
-    requires { ⌜ at + 6 ≤ length (now out) ⌝ }
-    ensures { λ _. ⌜ now (out .exit) ≡ written (now (out .entry)) at (form ∷ (fourBytes number ++ count ∷ [])) ⌝ }
-{
-    out[at] = form;
+    let told = spell(place);
+    let number = told.number;
+    out[at] = told.form;
     out[at + 1] = (number / 0x100_0000 % 0x100) as u8;
     out[at + 2] = (number / 0x1_0000 % 0x100) as u8;
     out[at + 3] = (number / 0x100 % 0x100) as u8;
     out[at + 4] = (number % 0x100) as u8;
-    out[at + 5] = count;
+    out[at + 5] = told.count;
 }
 
 // The registers that are taken once `place` was given: those of its run too.

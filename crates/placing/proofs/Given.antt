@@ -14,21 +14,21 @@ use Rattle.convention.specs.declared.ByRules.{ByRules}
 use Rattle.convention.specs.declared.Placing.the-variants.{Placed}
 use Rattle.convention.specs.Numbers.{argumentLimit}
 use Rattle.convention.specs.Sheets.{isClosing, sheetNo, sheetOf, sheetKind}
-use Rattle.convention.specs.Lists.{faultFrom, stateFrom, placesFrom}
+use Rattle.convention.specs.Lists.{faultFrom, stateFrom, placesFrom, KindsBelow}
 use Rattle.convention.specs.Rules.{markRun, markRuns, startsOf, needed, rulesPlace, rulesAfter, byRules, placeByRules}
-use Rattle.convention.specs.Judged.{KindsBelow}
 use Rattle.convention.specs.WellPlaced.{Share}
 use Rattle.convention.specs.Promised.{SheetRead}
 use Rattle.convention.proofs.Bytes.{four-read}
 use Rattle.convention.proofs.Sheets.{sheet-read}
 use Rattle.convention.proofs.Offsets.{least-ge, least-is}
+use Rattle.convention.proofs.Rules.{place-cases}
 use Rattle.places.specs.Ends.{stackEnd}
 use Rattle.places.proofs.Runs.{length-mark}
 use Rattle.places.proofs.Accepted.{Accepted, accepted}
 use Rattle.places.proofs.Apart.{FreeIn, FromP, StepGives, mark-stays, place-length, apart}
-use Rattle.placing.specs.Asked.{stepMost}
+use Rattle.places.specs.Walks.{stepMost}
 use Rattle.placing.proofs.Search.{left-free}
-use Rattle.placing.proofs.Steps.{place-cases, aligned, run-end, stack-end, p-grows}
+use Rattle.placing.proofs.Steps.{aligned, run-end, stack-end, p-grows}
 
 -- The places of a list by the rules of a sheet.
 abbrev places : Sheet → List ℕ → List Placement
@@ -43,13 +43,15 @@ Aligned a Nowhere = Unit {0}
 -- One place by the rules: its registers are free, its stack bytes begin at p or behind it, and at a multiple of the alignment.
 module _ (w : ℕ) (k : SheetKind) (s : ByRules) where
   place-free : FreeIn (s .unavailable) (rulesPlace w k s)
-  place-free = place-cases w k s (FreeIn (s .unavailable)) (left-free (s .unavailable) (needed w k) (startsOf k)) tt tt
+  place-free =
+      place-cases w k (s .unavailable) (λ at. FreeIn (s .unavailable) (at (s .p .0))) (left-free (s .unavailable) (needed w k) (startsOf k)) (λ _. tt) (λ _. tt)
 
   place-above : FromP (s .p) (rulesPlace w k s)
-  place-above = place-cases w k s (FromP (s .p)) (λ l. tt) (least-ge (k .alignment) 0 (s .p .0)) tt
+  place-above = place-cases w k (s .unavailable) (λ at. FromP (s .p) (at (s .p .0))) (λ l. tt) (λ _. least-ge (k .shape .alignment) 0 (s .p .0)) (λ _. tt)
 
-  place-aligned : 0 < k .alignment → Aligned (k .alignment) (rulesPlace w k s)
-  place-aligned h = place-cases w k s (Aligned (k .alignment)) (λ l. tt) (least-is (k .alignment) 0 (s .p .0) h .remainder) tt
+  place-aligned : 0 < k .shape .alignment → Aligned (k .shape .alignment) (rulesPlace w k s)
+  place-aligned h =
+      place-cases w k (s .unavailable) (λ at. Aligned (k .shape .alignment) (at (s .p .0))) (λ l. tt) (λ _. least-is (k .shape .alignment) 0 (s .p .0) h .remainder) (λ _. tt)
 
 -- Closing keeps the number of registers, and what was taken.
 marks-length : (taken : List Bool) (count : ℕ) (starts : List ℕ) → length (markRuns taken count starts) ≡ length taken
@@ -104,7 +106,7 @@ module _ (sheet : Sheet) (read : SheetRead sheet) where
       omega (arith, p-grows (sheet .head) (sheetKind sheet k) s (read .head) (read .kind k (below .0)), places-low (byRules sheet .after s k) ks (below .1) i)
 
   places-aligned : (s : ByRules) (ks : List ℕ) → KindsBelow (sheet .head .kinds) ks → (i : ℕ)
-      → Aligned (sheetKind sheet (getD ks i 0) .alignment) (getD (placesFrom (byRules sheet) s ks) i Nowhere)
+      → Aligned (sheetKind sheet (getD ks i 0) .shape .alignment) (getD (placesFrom (byRules sheet) s ks) i Nowhere)
   unfolding placesFrom KindsBelow
   places-aligned s [] below i = tt
   places-aligned s (k ∷ ks) below zero =
@@ -122,7 +124,7 @@ module _ (sheet : Sheet) (read : SheetRead sheet) where
 
     -- Each stack offset is a multiple of its kind's alignment.
     pub offset-aligned : (i : ℕ) (offset : Offset) (count : ℕ) → getD (places sheet ks) i Nowhere ≡ Stack offset count
-        → offset .0 % sheetKind sheet (getD ks i 0) .alignment ≡ 0
+        → offset .0 % sheetKind sheet (getD ks i 0) .shape .alignment ≡ 0
     offset-aligned i offset count e = rw e at (places-aligned (byRules sheet .begin) ks below i)
 
     -- Of a list that a call places, the final p is at most 31,600, and so is where any stack bytes end.

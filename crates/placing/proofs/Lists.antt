@@ -12,17 +12,16 @@ use Rattle.convention.specs.Bytes.{written}
 use Rattle.convention.specs.Sheets.{sheetKind}
 use Rattle.convention.specs.Lists.{recordOf}
 use Rattle.convention.specs.Rules.{placeFault, byRules}
-use Rattle.convention.proofs.Bytes.{length-written}
-use Rattle.convention.proofs.Lists.{known, record-length}
-use Rattle.places.specs.Walks.{WalkIs, recordsBefore}
+use Rattle.convention.proofs.Lists.{known}
+use Rattle.places.specs.Walks.{stepMost, WalkIs, recordsBefore}
 use Rattle.places.proofs.Walks.{walk-begin, walk-on, walk-hit, walk-end, write-begin, write-on, write-end}
-use Rattle.placing.specs.Asked.{stepMost, StepAsks, StepIs, ListAsks, rulesBegin, Standing, Writing}
+use Rattle.placing.specs.Asked.{StepAsks, StepIs, ListAsks, rulesBegin, Standing, Writing}
 use Rattle.placing.proofs.Steps.{p-grows}
 
 module _ (sheet : Sheet) (ks : List ℕ) (i : ℕ) (asks : ListAsks sheet ks) (h : i < length ks) where
   -- The next argument's kind is one of the sheet's, and so of the eight.
   kind-known : getD ks i 0 < sheet .head .kinds
-  kind-known = known (sheet .head .kinds) ks (asks .known) i h
+  kind-known = known (sheet .head .kinds) ks (asks .listed .known) i h
 
   pub kind-there : getD ks i 0 < 8
   kind-there = omega (arith, kind-known, asks .read .head .kinds)
@@ -33,7 +32,7 @@ module _ (sheet : Sheet) (ks : List ℕ) (i : ℕ) (asks : ListAsks sheet ks) (h
     next-asks reach = record {
       head = asks .read .head;
       kind = asks .read .kind _ kind-known;
-      room = omega (arith, reach, asks .short);
+      room = omega (arith, reach, asks .listed .short);
     }
 
     module _ (place : Placement) (next : ByRules) (step : StepIs (sheet .head) (sheetKind sheet (getD ks i 0)) s place next) where
@@ -56,9 +55,8 @@ module _ (sheet : Sheet) (ks : List ℕ) (i : ℕ) (asks : ListAsks sheet ks) (h
       pub writing-on : (before out after : List ℕ) → 6 * length ks ≤ length before → Writing sheet ks before s i out
           → after ≡ written out (6 * i) (recordOf place) → Writing sheet ks before next (i + 1) after
       writing-on before out after room writing e = record {
-        writes = write-on (byRules sheet) ks before out after s next place i (writing .writes) h (step .placed) e (step .reached);
+        writes = write-on (byRules sheet) ks before out s i (writing .writes) h room after next place (step .placed) e (step .reached);
         reach = next-reach (writing .reach);
-        long = rw e (length-written out (6 * i) (recordOf place) (rw record-length (omega (arith, h, room, writing .long)))) ∙ writing .long;
       }
 
 -- Before the first argument, and behind the last.
@@ -70,7 +68,7 @@ module _ (sheet : Sheet) (ks : List ℕ) where
   standing-end s i standing h = walk-end (byRules sheet) ks s i (s .p) (standing .walk) h refl
 
   pub writing-begin : (before : List ℕ) (s : ByRules) → s ≡ rulesBegin → Writing sheet ks before s 0 before
-  writing-begin before s e = rw e (record { writes = write-begin (byRules sheet) ks before; reach = omega arith; long = refl })
+  writing-begin before s e = rw e (record { writes = write-begin (byRules sheet) ks before; reach = omega arith })
 
   pub writing-end : (before out : List ℕ) (s : ByRules) (i : ℕ) → Writing sheet ks before s i out → length ks ≤ i
       → out ≡ recordsBefore (byRules sheet) ks before

@@ -1,12 +1,12 @@
 -- Laws of one step, on plain values: what its parts ask, and how the place and what comes behind it are put together from what each part answers.
 use Prim.Native.Nat.{ℕ, _+_, _%_, _≤_, _<_}
 use mathlib.Core.Path.{_≡_, refl}
-use mathlib.Core.Bool.{Bool, true, false, cond}
+use mathlib.Core.Bool.{Bool}
 use mathlib.Core.List.{List}
 use native.Mathlib.Omega.{arith}
 use lib.ListN.{length, getD, take}
 use lib.Seq.{length-take-le, getD-take}
-use borrow.Author.Tests.{ltb-true, lt-ltb, le-ltb, lt-leb, le-leb, eq-eqb, ne-eqb}
+use borrow.Author.Tests.{lt-ltb, le-ltb, lt-leb, le-leb, eq-eqb, ne-eqb}
 use Rattle.convention.specs.declared.Head.{Head}
 use Rattle.convention.specs.declared.Offset.{Offset}
 use Rattle.convention.specs.declared.SheetKind.{SheetKind}
@@ -14,28 +14,17 @@ use Rattle.convention.specs.declared.Placement.{Placement}
 use Rattle.convention.specs.declared.Placement.the-variants.{Registers, Stack, Nowhere}
 use Rattle.convention.specs.declared.ByRules.{ByRules}
 use Rattle.convention.specs.Offsets.{leastOffset}
+use Rattle.convention.specs.Shapes.{stackBytes}
 use Rattle.convention.specs.Promised.{HeadRead, SheetKindRead}
-use Rattle.convention.specs.Sheets.{mayUseStack}
-use Rattle.convention.specs.Rules.{markRuns, leftBefore, leftOf, startsOf, needed, fits, startTaken, stackBytes, stackOffset}
+use Rattle.convention.specs.Rules.{markRuns, leftBefore, leftOf, startsOf, needed, startTaken, stackOffset}
 use Rattle.convention.specs.Rules.{rulesPlace, placeTaken, placeP, rulesAfter}
 use Rattle.places.specs.Ends.{runEnd, stackEnd}
+use Rattle.places.specs.Walks.{stepMost}
+use Rattle.convention.proofs.Rules.{place-cases}
+use Rattle.convention.proofs.Shapes.{stack-most}
 use Rattle.convention.proofs.Offsets.{least-lt, width-pos, modulus-pos, modulus-most}
-use Rattle.placing.specs.Asked.{stepMost, RunsWithin, RunsTried, StepAsks, Searched, Found}
+use Rattle.placing.specs.Asked.{RunsWithin, RunsTried, StepAsks, Searched, Found}
 use Rattle.placing.proofs.Search.{left-le}
-
--- What holds of the registers that are free, of the stack and of nowhere holds of the place by the rules.
-pub place-cases : (w : ℕ) (k : SheetKind) (s : ByRules) (P : Placement → Type 0)
-    → (leftOf w k (s .unavailable) < length (startsOf k) → P (Registers (record { 0 = startTaken w k (s .unavailable) }) (needed w k)))
-    → P (Stack (record { 0 = stackOffset k (s .p .0) }) (stackBytes (k .size))) → P Nowhere → P (rulesPlace w k s)
-unfolding rulesPlace
-place-cases w k s P registers stack nowhere = go (fits w k (s .unavailable)) refl (mayUseStack k)
-  where
-    go : (fit : Bool) → fits w k (s .unavailable) ≡ fit → (allowed : Bool)
-        → P (cond fit (Registers (record { 0 = startTaken w k (s .unavailable) }) (needed w k))
-        (cond allowed (Stack (record { 0 = stackOffset k (s .p .0) }) (stackBytes (k .size))) Nowhere))
-    go true e allowed = registers (ltb-true _ _ e)
-    go false e true = stack
-    go false e false = nowhere
 
 module _ (h : Head) (k : SheetKind) (head : HeadRead h) (kind : SheetKindRead h k) where
   -- A register has a width.
@@ -60,15 +49,15 @@ module _ (h : Head) (k : SheetKind) (head : HeadRead h) (kind : SheetKindRead h 
   }
 
   -- An alignment is not 0, and there is room for an aligned offset.
-  pub aligned : 0 < k .alignment
-  aligned = modulus-pos (k .alignment) (kind .shape .alignment)
+  pub aligned : 0 < k .shape .alignment
+  aligned = modulus-pos (k .shape .alignment) (kind .shape .alignment)
 
-  pub offset-room : (p room : ℕ) → p + stepMost < room → p + k .alignment < room
-  offset-room p room l = omega (arith, modulus-most (k .alignment) (kind .shape .alignment))
+  pub offset-room : (p room : ℕ) → p + stepMost < room → p + k .shape .alignment < room
+  offset-room p room l = omega (arith, modulus-most (k .shape .alignment) (kind .shape .alignment))
 
   -- The place's run lies within the sixteen, and its stack bytes end at most `stepMost` behind p.
   pub run-end : (s : ByRules) (place : Placement) → place ≡ rulesPlace (h .width) k s → runEnd place ≤ 16
-  run-end s place e = rw e (place-cases (h .width) k s (λ x. runEnd x ≤ 16) registers (omega arith) (omega arith))
+  run-end s place e = rw e (place-cases (h .width) k (s .unavailable) (λ at. runEnd (at (s .p .0)) ≤ 16) registers (λ _. omega arith) (λ _. omega arith))
     where
       registers : leftOf (h .width) k (s .unavailable) < length (startsOf k) → startTaken (h .width) k (s .unavailable) + needed (h .width) k ≤ 16
       registers l =
@@ -76,10 +65,10 @@ module _ (h : Head) (k : SheetKind) (head : HeadRead h) (kind : SheetKindRead h 
           rw (getD-take (k .tries) (k .starts) _ 0 tried) (runs-within _ refl .starts _ tried)
 
   pub stack-end : (s : ByRules) → stackEnd (rulesPlace (h .width) k s) ≤ s .p .0 + stepMost
-  stack-end s = place-cases (h .width) k s (λ x. stackEnd x ≤ s .p .0 + stepMost) (λ l. omega arith) stack (omega arith)
+  stack-end s = place-cases (h .width) k (s .unavailable) (λ at. stackEnd (at (s .p .0)) ≤ s .p .0 + stepMost) (λ l. omega arith) (λ _. stack) (λ _. omega arith)
     where
-      stack : stackOffset k (s .p .0) + k .size ≤ s .p .0 + stepMost
-      stack = omega (arith, kind .shape .size, modulus-most (k .alignment) (kind .shape .alignment), least-lt (k .alignment) 0 (s .p .0) aligned)
+      stack : stackOffset k (s .p .0) + stackBytes (k .shape) ≤ s .p .0 + stepMost
+      stack = omega (arith, stack-most h (k .shape) (kind .shape), modulus-most (k .shape .alignment) (kind .shape .alignment), least-lt (k .shape .alignment) 0 (s .p .0) aligned)
 
   pub stack-room : (s : ByRules) (place : Placement) (room : ℕ) → place ≡ rulesPlace (h .width) k s → s .p .0 + stepMost < room → stackEnd place < room
   stack-room s place room e l = rw e (omega (arith, stack-end s))
@@ -99,10 +88,10 @@ module _ (h : Head) (k : SheetKind) (s : ByRules) (left : ℕ) (found : Searched
   unfolding rulesPlace
   place-registers count l e = rw (← found .tried, count-starts, lt-ltb left (k .tries) l, getD-take (k .tries) (k .starts) left 0 l, e)
 
-  pub place-stack : (offset : Offset) → k .tries ≤ left → k .flags % 2 ≡ 1 → offset .0 ≡ leastOffset (k .alignment) 0 (s .p .0)
-      → Stack offset (k .size) ≡ rulesPlace (h .width) k s
+  pub place-stack : (offset : Offset) (bytes : ℕ) → k .tries ≤ left → k .flags % 2 ≡ 1 → offset .0 ≡ leastOffset (k .shape .alignment) 0 (s .p .0)
+      → bytes ≡ stackBytes (k .shape) → Stack offset bytes ≡ rulesPlace (h .width) k s
   unfolding rulesPlace
-  place-stack offset l f e = rw (← found .tried, count-starts, le-ltb left (k .tries) l, eq-eqb _ _ f, ← e)
+  place-stack offset bytes l f e eb = rw (← found .tried, count-starts, le-ltb left (k .tries) l, eq-eqb _ _ f, ← e, eb)
 
   pub place-nowhere : k .tries ≤ left → (k .flags % 2 ≡ 1 → ⊥) → Nowhere ≡ rulesPlace (h .width) k s
   unfolding rulesPlace

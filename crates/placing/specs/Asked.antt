@@ -10,9 +10,9 @@ use Rattle.convention.specs.declared.Sheet.{Sheet}
 use Rattle.convention.specs.declared.ByRules.{ByRules}
 use Rattle.convention.specs.Numbers.{argumentLimit}
 use Rattle.convention.specs.Promised.{HeadRead, SheetKindRead, SheetRead}
-use Rattle.convention.specs.Lists.{recordLength, unknownAt}
+use Rattle.convention.specs.Lists.{recordLength}
 use Rattle.convention.specs.Rules.{leftOf, rulesPlace, rulesAfter, noRegisters, byRules}
-use Rattle.places.specs.Walks.{WalkLeft, WriteLeft}
+use Rattle.places.specs.Walks.{stepMost, WalkLeft, WriteLeft, Listed}
 
 -- The run of `count` registers of each start of a kind lies within the sixteen.
 pub record RunsWithin (kind : SheetKind) (count : ℕ) : Type 0 where
@@ -24,10 +24,6 @@ pub record RunsWithin (kind : SheetKind) (count : ℕ) : Type 0 where
 pub record RunsTried (kind : SheetKind) (count left : ℕ) : Type 0 where
   pub runs : RunsWithin kind count
   pub tried : left ≤ kind .tries
-
--- The most that p grows by in a step: 15 bytes that are skipped and 64 that are taken.
-abbrev pub stepMost : ℕ
-stepMost = 79
 
 -- One step: a head and a kind that were read, and room on the stack.
 pub record StepAsks (h : Head) (k : SheetKind) (s : ByRules) : Type 0 where
@@ -53,8 +49,7 @@ pub record StepIs (h : Head) (k : SheetKind) (s : ByRules) (place : Placement) (
 -- A list of kinds of a sheet that was read, of no more arguments than a call places.
 pub record ListAsks (sheet : Sheet) (ks : List ℕ) : Type 0 where
   pub read : SheetRead sheet
-  pub known : unknownAt (sheet .head .kinds) ks ≡ length ks
-  pub short : length ks ≤ argumentLimit
+  pub listed : Listed argumentLimit (sheet .head .kinds) ks
 
 -- The same, with room for its records.
 pub record RoomAsks (sheet : Sheet) (ks out : List ℕ) : Type 0 where
@@ -74,4 +69,3 @@ pub record Standing (sheet : Sheet) (ks : List ℕ) (s : ByRules) (i : ℕ) : Ty
 pub record Writing (sheet : Sheet) (ks before : List ℕ) (s : ByRules) (i : ℕ) (out : List ℕ) : Type 0 where
   pub writes : WriteLeft (byRules sheet) ks before s i out
   pub reach : s .p .0 ≤ stepMost * i
-  pub long : length out ≡ length before

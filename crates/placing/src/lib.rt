@@ -8,13 +8,13 @@ use convention::Reading;
 use convention::Reg;
 use convention::Sheet;
 use convention::SheetKind;
+use fields::shapes;
 use places::Walk;
 ghost use mathlib.Core.Path.{_≡_};
 ghost use lib.ListN.{length, take};
 ghost use Rattle.convention.specs.Numbers.{argumentLimit};
 ghost use Rattle.convention.specs.Promised.{SheetRead};
-ghost use Rattle.convention.specs.Lists.{walkAnswer};
-ghost use Rattle.convention.specs.Rules.{leftBefore, markRuns, startsOf, rulesPlace, placeFault, rulesAfter, byRules, placeByRules, rulesMemory};
+ghost use Rattle.convention.specs.Rules.{leftBefore, markRuns, startsOf, rulesPlace, rulesAfter, byRules, placeByRules, rulesMemory};
 ghost use Rattle.places.specs.Walks.{WalkIs, recordsBefore, PlacingIs};
 ghost use Rattle.placing.specs.Asked.{RunsWithin, RunsTried, StepAsks, Searched, Found, StepIs, ListAsks, RoomAsks, rulesBegin};
 
@@ -58,12 +58,13 @@ fn place(head: Head, kind: SheetKind, s: ByRules, left: u8) -> Placement
 {
     if left < kind.tries {
         let start = kind.starts[left as usize];
-        let count = sheet::registers_needed(head.width, kind.size);
+        let count = shapes::registers_needed(head.width, kind.shape);
         return Placement::Registers(Reg(start), count);
     }
     if kind.flags % 2 == 1 {
-        let p = s.p;
-        return Placement::Stack(places::least_offset(kind.alignment, 0, p), kind.size);
+        let shape = kind.shape;
+        let offset = places::least_offset(shape.alignment, 0, s.p);
+        return Placement::Stack(offset, shapes::stack_bytes(shape));
     }
     Placement::Nowhere
 }
@@ -83,7 +84,7 @@ fn after(head: Head, kind: SheetKind, s: ByRules, left: u8, place: Placement) ->
             p,
         };
     }
-    let count = sheet::registers_needed(head.width, kind.size);
+    let count = shapes::registers_needed(head.width, kind.shape);
     let closed = mark_runs(taken, kind, count, left);
     ByRules {
         unavailable: closed,
@@ -103,7 +104,7 @@ pub fn step(head: Head, kind: SheetKind, s: ByRules) -> Stepped
     ensures { λ r. ⌜ StepIs head kind s (r .place) (r .next) ⌝ }
 {
     let taken = s.unavailable;
-    let count = sheet::registers_needed(head.width, kind.size);
+    let count = shapes::registers_needed(head.width, kind.shape);
     let left = left_before(taken, kind, count);
     let found = place(head, kind, s, left);
     let next = after(head, kind, s, left, found);
@@ -120,17 +121,6 @@ fn begin() -> ByRules
     }
 }
 
-// The fault of a place: 1 where there is none.
-fn fault_of(place: Placement) -> u8
-    ensures { λ r. ⌜ r ≡ placeFault place ⌝ }
-{
-    match place {
-        Placement::Registers(_, _) => 0,
-        Placement::Stack(_, _) => 0,
-        Placement::Nowhere => 1,
-    }
-}
-
 // Goes through a list of known kinds up to its first argument without a place. The kind is taken here and not in a
 // function of its own, which would copy the whole sheet for each argument.
 fn walk(sheet: Sheet, list: &[u8]) -> Walk
@@ -144,7 +134,7 @@ fn walk(sheet: Sheet, list: &[u8]) -> Walk
         let kind = sheet.kinds[list[i] as usize];
         let tried = step(head, kind, s);
         let place = tried.place;
-        let fault = fault_of(place);
+        let fault = places::place_fault(place);
         if fault != 0 {
             let p = s.p;
             return Walk { fault, stop: i, p };
@@ -178,45 +168,22 @@ fn write_list(sheet: Sheet, list: &[u8], out: &mut [u8])
     }
 }
 
-// What a walk answers: number 10, or success with the number of arguments and the final p.
-fn walk_answer(walked: Walk, count: usize) -> Placing
-    ensures { λ r. ⌜ r ≡ walkAnswer (walked .fault) (walked .stop) count (walked .p) ⌝ }
-{
-    if walked.fault != 0 {
-        return Placing::Faulty(walked.stop, walked.fault);
-    }
-    let p = walked.p;
-    Placing::Placed(count, p)
-}
-
-// Places a list of known kinds whose records have room. They are written only where every argument has a place.
-fn place_known(sheet: Sheet, list: &[u8], out: &mut [u8]) -> Placing
-    requires { ⌜ RoomAsks sheet (now list) (now out) ⌝ }
-    ensures { λ r. ⌜ PlacingIs argumentLimit (sheet .head .kinds) (byRules sheet) (now (list .entry)) (now (out .entry)) r (now (out .exit)) ⌝ }
-{
-    let walked = walk(sheet, list);
-    let answer = walk_answer(walked, list.len());
-    if walked.fault == 0 {
-        write_list(sheet, list, out);
-    }
-    answer
-}
-
-// Places a list by a sheet that was read, in 01's order of refusals: 8, 12, 9, 10.
+// Places a list by a sheet that was read, in 01's order of refusals: 8, 12, 9, 10. Its records are written only where every
+// argument has a place.
 fn place_list(sheet: Sheet, list: &[u8], out: &mut [u8]) -> Placing
     requires { ⌜ SheetRead sheet ⌝ }
     ensures { λ r. ⌜ PlacingIs argumentLimit (sheet .head .kinds) (byRules sheet) (now (list .entry)) (now (out .entry)) r (now (out .exit)) ⌝ }
 {
-    let n = list.len();
-    let number = places::list_no(n, out.len());
-    if number != 0 {
-        return Placing::Refused(number);
+    let tested = places::test_list(sheet.head.kinds, list, out.len());
+    if tested.number != 0 {
+        return places::refusal_answer(tested);
     }
-    let unknown = places::unknown_at(sheet.head.kinds, list);
-    if unknown < n {
-        return Placing::Unknown(unknown);
+    let walked = walk(sheet, list);
+    let answer = places::walk_answer(walked, list.len());
+    if walked.fault == 0 {
+        write_list(sheet, list, out);
     }
-    place_known(sheet, list, out)
+    answer
 }
 
 // Places a list of kinds by the rules of a sheet: the records in the first bytes of `out`, or a refusal that writes

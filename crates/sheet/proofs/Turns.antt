@@ -8,10 +8,11 @@ use native.Mathlib.Numerals.{add-one}
 use lib.Dec.{leb}
 use lib.ListN.{length, getD, take, drop, set, replicate, length-drop}
 use lib.Seq.{take-all, drop-cons, drop-drop, getD-drop}
-use Rattle.convention.specs.Fields.{fieldNo, kindsAt}
+use Rattle.convention.specs.Fields.{fieldNo}
+use Rattle.convention.specs.Layout.{kindsAt}
 use Rattle.convention.specs.declared.Head.{Head}
 use Rattle.convention.specs.declared.SheetKind.{SheetKind}
-use Rattle.convention.specs.Sheets.{startsAt, startsNo, sheetKindLength, sheetKindNo, sheetKindOf, sheetKindsNo, sheetKindsOf, sheetKindsLength, sheetKindAt, blankKind}
+use Rattle.convention.specs.Sheets.{startsNo, sheetKindLength, sheetKindNo, sheetKindOf, sheetKindsNo, sheetKindsOf, sheetKindsLength, sheetKindAt, blankKind}
 use Rattle.convention.proofs.Parts.{rest-of}
 use Rattle.convention.proofs.Filled.{filled, fill-turn, fill-done}
 use Rattle.convention.proofs.Sheets.{kind-tries, kind-length, kinds-count, kind-next, kind-within}
@@ -42,98 +43,98 @@ module _ (n k : ℕ) (s : List ℕ) (at left w : ℕ) (inv : startsNo n k s at l
   starts-end h = turn-end (startsInTurn n k s) (starts-turns n k s) w at left inv h
 
 -- The kinds, each where the one before it ends. A kind that is right leaves the number and the end of the others; one that is not gives its own number.
-abbrev kindsInTurn : Head → List ℕ → Things
-kindsInTurn h s = record {
-  long = λ at. sheetKindLength (drop at s);
-  one = λ at. sheetKindNo h (drop at s);
-  all = λ at left. sheetKindsNo h (drop at s) left;
+abbrev kindsInTurn : ℕ → Head → List ℕ → Things
+kindsInTurn v h s = record {
+  long = λ at. sheetKindLength v (drop at s);
+  one = λ at. sheetKindNo v h (drop at s);
+  all = λ at left. sheetKindsNo v h (drop at s) left;
 }
 
-kinds-turns : (h : Head) (s : List ℕ) → InTurn (kindsInTurn h s)
+kinds-turns : (v : ℕ) (h : Head) (s : List ℕ) → InTurn (kindsInTurn v h s)
 unfolding sheetKindsNo
-kinds-turns h s = record { none = λ at. refl; more = λ at left. rw (← drop-drop (sheetKindLength (drop at s)) at s) }
+kinds-turns v h s = record { none = λ at. refl; more = λ at left. rw (← drop-drop (sheetKindLength v (drop at s)) at s) }
 
 -- Where the last one ends: behind one more, and where none is left.
-lengths-on : (s : List ℕ) (at left : ℕ) → 0 < left
-    → at + sheetKindLength (drop at s) + sheetKindsLength (drop (at + sheetKindLength (drop at s)) s) (left - 1) ≡ at + sheetKindsLength (drop at s) left
+lengths-on : (v : ℕ) (s : List ℕ) (at left : ℕ) → 0 < left
+    → at + sheetKindLength v (drop at s) + sheetKindsLength v (drop (at + sheetKindLength v (drop at s)) s) (left - 1) ≡ at + sheetKindsLength v (drop at s) left
 unfolding sheetKindsLength
-lengths-on s at zero t = absurd (omega arith)
-lengths-on s at (suc left) t =
+lengths-on v s at zero t = absurd (omega arith)
+lengths-on v s at (suc left) t =
     let less : suc left - 1 ≡ left = omega arith in
-    rw (less, ← drop-drop (sheetKindLength (drop at s)) at s) (omega arith)
+    rw (less, ← drop-drop (sheetKindLength v (drop at s)) at s) (omega arith)
 
-lengths-end : (s : List ℕ) (at left : ℕ) → left ≤ 0 → at + sheetKindsLength (drop at s) left ≡ at
+lengths-end : (v : ℕ) (s : List ℕ) (at left : ℕ) → left ≤ 0 → at + sheetKindsLength v (drop at s) left ≡ at
 unfolding sheetKindsLength
-lengths-end s at zero t = add-zero at
-lengths-end s at (suc left) t = absurd (omega arith)
+lengths-end v s at zero t = add-zero at
+lengths-end v s at (suc left) t = absurd (omega arith)
 
-module _ (h : Head) (s : List ℕ) (at left : ℕ) (inv : KindsLeft h s at left) where
-  module _ (number : ℕ) (t : 0 < left) (en : number ≡ sheetKindNo h (take (length s - at) (drop at s))) where
-    this : number ≡ sheetKindNo h (drop at s)
+module _ (v : ℕ) (h : Head) (s : List ℕ) (at left : ℕ) (inv : KindsLeft v h s at left) where
+  module _ (number : ℕ) (t : 0 < left) (en : number ≡ sheetKindNo v h (take (length s - at) (drop at s))) where
+    this : number ≡ sheetKindNo v h (drop at s)
     this = rw (← rest-of s at) en
 
-    pub kinds-turn : (len : ℕ) → number ≡ 0 → len ≡ sheetKindLength (take (length s - at) (drop at s)) → KindsLeft h s (at + len) (left - 1)
+    pub kinds-turn : (len : ℕ) → number ≡ 0 → len ≡ sheetKindLength v (take (length s - at) (drop at s)) → KindsLeft v h s (at + len) (left - 1)
     kinds-turn len z el =
-        let long : len ≡ sheetKindLength (drop at s) = rw (← rest-of s at) el in
+        let long : len ≡ sheetKindLength v (drop at s) = rw (← rest-of s at) el in
         record {
-          within = omega (arith, simp length-drop at (kind-length h (drop at s) (sym this ∙ z)), inv .within);
-          numbers = rw long (turn-right (kindsInTurn h s) (kinds-turns h s) _ at left number (inv .numbers) t this z);
-          lengths = rw long (lengths-on s at left t ∙ inv .lengths);
+          within = omega (arith, simp length-drop at (kind-length v h (drop at s) (sym this ∙ z)), inv .within);
+          numbers = rw long (turn-right (kindsInTurn v h s) (kinds-turns v h s) _ at left number (inv .numbers) t this z);
+          lengths = rw long (lengths-on v s at left t ∙ inv .lengths);
         }
 
-    pub kinds-hit : (number ≡ 0 → ⊥) → KindsAre h s number 0
+    pub kinds-hit : (number ≡ 0 → ⊥) → KindsAre v h s number 0
     kinds-hit nz =
         record {
-          first = turn-wrong (kindsInTurn h s) (kinds-turns h s) _ at left number (inv .numbers) t this nz;
+          first = turn-wrong (kindsInTurn v h s) (kinds-turns v h s) _ at left number (inv .numbers) t this nz;
           ends = λ z. absurd (nz z);
         }
 
-  pub kinds-end : left ≤ 0 → KindsAre h s 0 at
+  pub kinds-end : left ≤ 0 → KindsAre v h s 0 at
   kinds-end t =
       record {
-        first = turn-end (kindsInTurn h s) (kinds-turns h s) _ at left (inv .numbers) t;
-        ends = λ z. sym (lengths-end s at left t) ∙ inv .lengths;
+        first = turn-end (kindsInTurn v h s) (kinds-turns v h s) _ at left (inv .numbers) t;
+        ends = λ z. sym (lengths-end v s at left t) ∙ inv .lengths;
       }
 
 -- One more start in its place.
-pub start-stored : (s starts : List ℕ) (tries i : ℕ)
-    → starts ≡ filled (drop startsAt s) 16 0 i → i < tries → tries ≤ 16 → 4 + tries ≤ length s
-    → set starts i (getD s (4 + i) 0) ≡ filled (drop startsAt s) 16 0 (i + 1)
-start-stored s starts tries i inv h t l =
-    fill-turn (drop startsAt s) 16 0 starts i 0 _ inv (omega arith) (rw length-drop (omega arith)) (getD-drop startsAt s i 0)
+pub start-stored : (s starts : List ℕ) (first tries i : ℕ)
+    → starts ≡ filled (drop first s) 16 0 i → i < tries → tries ≤ 16 → first + tries ≤ length s
+    → set starts i (getD s (first + i) 0) ≡ filled (drop first s) 16 0 (i + 1)
+start-stored s starts first tries i inv h t l =
+    fill-turn (drop first s) 16 0 starts i 0 _ inv (omega arith) (rw length-drop (omega arith)) (getD-drop first s i 0)
 
 -- What storing the next kind needs to know of it: it is right, it ends within the sheet, and it is the next of all.
-module _ (h : Head) (s : List ℕ) (at i : ℕ) (kinds : List SheetKind) (inv : KindsStored h s at i kinds) (t : i < h .kinds) where
+module _ (v : ℕ) (h : Head) (s : List ℕ) (at i : ℕ) (kinds : List SheetKind) (inv : KindsStored v h s at i kinds) (t : i < h .kinds) where
   left : h .kinds - i ≡ suc (h .kinds - (i + 1))
   left = omega arith
 
-  numbers : (sheetKindNo h (drop at s) ≡ 0) × (sheetKindsNo h (drop (sheetKindLength (drop at s)) (drop at s)) (h .kinds - (i + 1)) ≡ 0)
+  numbers : (sheetKindNo v h (drop at s) ≡ 0) × (sheetKindsNo v h (drop (sheetKindLength v (drop at s)) (drop at s)) (h .kinds - (i + 1)) ≡ 0)
   unfolding sheetKindsNo
   numbers = or-zero _ _ (rw left at (inv .right))
 
-  pub next-right : sheetKindNo h (drop at s) ≡ 0
+  pub next-right : sheetKindNo v h (drop at s) ≡ 0
   next-right = numbers .0
 
-  pub next-whole : KindWhole (take (length s - at) (drop at s))
-  next-whole = rw rest-of (record { tries = kind-tries h (drop at s) next-right; whole = kind-length h (drop at s) next-right })
+  pub next-whole : KindWhole v (take (length s - at) (drop at s))
+  next-whole = rw rest-of (record { tries = kind-tries v h (drop at s) next-right; whole = kind-length v h (drop at s) next-right })
 
-  rest-next : drop i (sheetKindsOf (drop kindsAt s) (h .kinds))
-      ≡ sheetKindOf (drop at s) ∷ sheetKindsOf (drop (sheetKindLength (drop at s)) (drop at s)) (h .kinds - (i + 1))
+  rest-next : drop i (sheetKindsOf v (drop kindsAt s) (h .kinds))
+      ≡ sheetKindOf v (drop at s) ∷ sheetKindsOf v (drop (sheetKindLength v (drop at s)) (drop at s)) (h .kinds - (i + 1))
   unfolding sheetKindsOf
   rest-next = rw left at (inv .rest)
 
   pub kind-stored : (kind : SheetKind) (len : ℕ) → h .kinds ≤ 8
-      → kind ≡ sheetKindOf (take (length s - at) (drop at s)) → len ≡ sheetKindLength (take (length s - at) (drop at s))
-      → KindsStored h s (at + len) (i + 1) (set kinds i kind)
+      → kind ≡ sheetKindOf v (take (length s - at) (drop at s)) → len ≡ sheetKindLength v (take (length s - at) (drop at s))
+      → KindsStored v h s (at + len) (i + 1) (set kinds i kind)
   kind-stored kind len m ek el =
-      let long : len ≡ sheetKindLength (drop at s) = rw (← rest-of s at) el in
-      let next : drop (at + len) s ≡ drop (sheetKindLength (drop at s)) (drop at s) = rw (drop-drop, long) in
-      let all = sheetKindsOf (drop kindsAt s) (h .kinds) in
-      let count : length all ≡ h .kinds = kinds-count (drop kindsAt s) (h .kinds) in
+      let long : len ≡ sheetKindLength v (drop at s) = rw (← rest-of s at) el in
+      let next : drop (at + len) s ≡ drop (sheetKindLength v (drop at s)) (drop at s) = rw (drop-drop, long) in
+      let all = sheetKindsOf v (drop kindsAt s) (h .kinds) in
+      let count : length all ≡ h .kinds = kinds-count v (drop kindsAt s) (h .kinds) in
       let both = sym (drop-cons all i kind (omega arith)) ∙ rest-next in
       let here : getD all i kind ≡ kind = head-eq-of-cons-eq both ∙ sym (rw (← rest-of s at) ek) in
       record {
-        within = omega (arith, simp length-drop at (kind-length h (drop at s) next-right), inv .within);
+        within = omega (arith, simp length-drop at (kind-length v h (drop at s) next-right), inv .within);
         count = omega arith;
         right = rw next (numbers .1);
         rest = rw next (rw (← add-one i) at (tail-eq-of-cons-eq both));
@@ -141,34 +142,34 @@ module _ (h : Head) (s : List ℕ) (at i : ℕ) (kinds : List SheetKind) (inv : 
       }
 
 -- Nothing stored yet, and all stored.
-pub kinds-begin : (h : Head) (s : List ℕ) (kinds : List SheetKind)
-    → KindsRight h s → kinds ≡ replicate 8 blankKind → KindsStored h s kindsAt 0 kinds
-kinds-begin h s kinds right e =
+pub kinds-begin : (v : ℕ) (h : Head) (s : List ℕ) (kinds : List SheetKind)
+    → KindsRight v h s → kinds ≡ replicate 8 blankKind → KindsStored v h s kindsAt 0 kinds
+kinds-begin v h s kinds right e =
     let none : h .kinds - 0 ≡ h .kinds = omega arith in
     record { within = right .within; count = omega arith; right = rw none (right .right); rest = rw none; stored = e }
 
-pub kinds-done : (h : Head) (s : List ℕ) (at i : ℕ) (kinds : List SheetKind)
-    → KindsStored h s at i kinds → h .kinds ≤ i → kinds ≡ sheetKindsOf (drop kindsAt s) (h .kinds) ++ replicate (8 - h .kinds) blankKind
-kinds-done h s at i kinds inv t =
-    let all = sheetKindsOf (drop kindsAt s) (h .kinds) in
+pub kinds-done : (v : ℕ) (h : Head) (s : List ℕ) (at i : ℕ) (kinds : List SheetKind)
+    → KindsStored v h s at i kinds → h .kinds ≤ i → kinds ≡ sheetKindsOf v (drop kindsAt s) (h .kinds) ++ replicate (8 - h .kinds) blankKind
+kinds-done v h s at i kinds inv t =
+    let all = sheetKindsOf v (drop kindsAt s) (h .kinds) in
     let stored = fill-done all 8 blankKind kinds i (h .kinds) (inv .stored) (inv .count) t in
     rw (take-all (h .kinds) all (rw kinds-count (le-refl (h .kinds)))) at stored
 
 -- Going to kind k: the next kind is where the kinds before it end, within the sheet.
-pub kind-begins : (s : List ℕ) → kindsAt ≡ sheetKindAt s 0
+pub kind-begins : (v : ℕ) (s : List ℕ) → kindsAt ≡ sheetKindAt v s 0
 unfolding sheetKindsLength
-kind-begins s = refl
+kind-begins v s = refl
 
-module _ (s : List ℕ) (k at i : ℕ) (inv : at ≡ sheetKindAt s i) where
-  pub at-within : KindThere s k → i ≤ k → at ≤ length s
-  at-within there l = rw inv (kind-within s (there .read) i (omega (arith, there .known)))
+module _ (v : ℕ) (s : List ℕ) (k at i : ℕ) (inv : at ≡ sheetKindAt v s i) where
+  pub at-within : KindThere v s k → i ≤ k → at ≤ length s
+  at-within there l = rw (inv, there .version) (kind-within s (there .read) i (omega (arith, there .known)))
 
-  pub at-turn : (len : ℕ) → len ≡ sheetKindLength (take (length s - at) (drop at s)) → at + len ≡ sheetKindAt s (i + 1)
+  pub at-turn : (len : ℕ) → len ≡ sheetKindLength v (take (length s - at) (drop at s)) → at + len ≡ sheetKindAt v s (i + 1)
   at-turn len el =
-      let long : len ≡ sheetKindLength (drop at s) = rw (← rest-of s at) el in
+      let long : len ≡ sheetKindLength v (drop at s) = rw (← rest-of s at) el in
       rw (long, kind-next, inv)
 
-  pub at-end : i ≤ k → k ≤ i → at ≡ sheetKindAt s k
+  pub at-end : i ≤ k → k ≤ i → at ≡ sheetKindAt v s k
   at-end l g =
       let same : k ≡ i = omega arith in
       rw same inv

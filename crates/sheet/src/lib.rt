@@ -3,30 +3,27 @@
 // that starts at its first byte.
 use convention::Head;
 use convention::Reading;
+use convention::Shape;
 use convention::Sheet;
 use convention::SheetAnswer;
 use convention::SheetKind;
+use fields::layout;
+use fields::layout::KINDS_AT;
+use fields::shapes;
 ghost use mathlib.Core.Path.{_≡_};
 ghost use mathlib.Core.List.{_++_};
 ghost use Prim.Native.Nat.{_+_, _-_, _≤_, _<_};
 ghost use lib.ListN.{length, take, drop, replicate};
-ghost use Rattle.convention.specs.Sheets.{registersNeeded, sheetKindLength, startsNo, sheetKindNo, sheetKindOf, sheetKindsOf, sheetKindAt, sheetNo, sheetOf, blankKind, blankSheet, readSheet};
+ghost use Rattle.convention.specs.Layout.{kindsAt};
+ghost use Rattle.convention.specs.Sheets.{sheetKindLength, startsNo, sheetKindNo, sheetKindOf, sheetKindsOf, sheetKindAt, sheetNo, sheetOf, blankKind, blankSheet, readSheet};
 ghost use Rattle.sheet.specs.Kinds.{HeadThere, KindsAre, KindWhole, KindsRight, KindThere};
 
-// 'A kind needs k registers, size / w rounded up.'
-pub fn registers_needed(width: u8, size: u8) -> u8
-    requires { ⌜ 0 < width ⌝ }
-    ensures { λ r. ⌜ r ≡ registersNeeded width size ⌝ }
+// The number of so many starts of a kind, from byte `first` on: 5, or 3, for the first that is wrong or missing.
+fn starts_no(registers: u8, needed: u8, s: &[u8], first: usize, tries: u8) -> u8
+    requires { ⌜ first ≤ 257 ⌝ }
+    ensures { λ r. ⌜ r ≡ startsNo registers needed (now (s .entry)) first tries ⌝ }
 {
-    let bytes = size as u16 + width as u16;
-    ((bytes - 1) / width as u16) as u8
-}
-
-// The number of a kind's starts, which begin at byte 4: 5, or 3, for the first that is wrong or missing.
-fn starts_no(registers: u8, needed: u8, s: &[u8], tries: u8) -> u8
-    ensures { λ r. ⌜ r ≡ startsNo registers needed (now (s .entry)) 4 tries ⌝ }
-{
-    let mut at: usize = 4;
+    let mut at = first;
     let mut left = tries;
     while 0 < left {
         let start = fields::byte_at(s, at);
@@ -42,16 +39,19 @@ fn starts_no(registers: u8, needed: u8, s: &[u8], tries: u8) -> u8
 }
 
 // The number of one kind; s is the rest of the sheet from its first byte on.
-fn kind_no(head: Head, s: &[u8]) -> u8
+fn kind_no(version: u8, head: Head, s: &[u8]) -> u8
     requires { ⌜ 0 < head .width ⌝ }
-    ensures { λ r. ⌜ r ≡ sheetKindNo head (now (s .entry)) ⌝ }
+    ensures { λ r. ⌜ r ≡ sheetKindNo version head (now (s .entry)) ⌝ }
 {
-    let shape = fields::shape_no(head, s);
-    let flags = fields::field_no(s, 2, fields::byte_at(s, 2) <= 3, 5);
-    let tries = fields::byte_at(s, 3);
-    let count = fields::field_no(s, 3, tries <= 16, 5);
-    let needed = registers_needed(head.width, fields::byte_at(s, 0));
-    let starts = starts_no(head.registers, needed, s, tries);
+    let shape = shapes::shape_no(version, head, s);
+    let flags_at = layout::flags_at(version);
+    let flags = fields::field_no(s, flags_at, fields::byte_at(s, flags_at) <= 3, 5);
+    let tries_at = layout::tries_at(version);
+    let tries = fields::byte_at(s, tries_at);
+    let count = fields::field_no(s, tries_at, tries <= 16, 5);
+    let needed = shapes::registers_needed(head.width, shapes::shape_of(version, s));
+    let first = layout::starts_at(version);
+    let starts = starts_no(head.registers, needed, s, first, tries);
     fields::or_else(
         shape,
         fields::or_else(flags, fields::or_else(count, starts)),
@@ -59,11 +59,12 @@ fn kind_no(head: Head, s: &[u8]) -> u8
 }
 
 // How many bytes a kind takes; s begins at its first byte.
-fn kind_length(s: &[u8]) -> usize
-    ensures { λ r. ⌜ r ≡ sheetKindLength (now (s .entry)) ⌝ }
-    ensures { λ r. ⌜ r ≤ 259 ⌝ }
+fn kind_length(version: u8, s: &[u8]) -> usize
+    ensures { λ r. ⌜ r ≡ sheetKindLength version (now (s .entry)) ⌝ }
+    ensures { λ r. ⌜ r ≤ 512 ⌝ }
 {
-    4 + fields::byte_at(s, 3) as usize
+    let tries = fields::byte_at(s, layout::tries_at(version));
+    layout::starts_at(version) + tries as usize
 }
 
 // What going through the kinds found: the number of the first thing wrong, and where the last kind ends if nothing is.
@@ -73,49 +74,50 @@ pub struct Kinds {
 }
 
 // Goes through the kinds of a sheet that is at least as long as its head.
-fn kinds_no(head: Head, s: &[u8]) -> Kinds
+fn kinds_no(version: u8, head: Head, s: &[u8]) -> Kinds
     requires { ⌜ HeadThere head (now s) ⌝ }
-    ensures { λ r. ⌜ KindsAre head (now (s .entry)) (r .number) (r .end) ⌝ }
+    ensures { λ r. ⌜ KindsAre version head (now (s .entry)) (r .number) (r .end) ⌝ }
 {
-    let mut at: usize = 7;
+    let mut at = KINDS_AT;
     let mut left = head.kinds;
     while 0 < left {
         let rest = &s[at..];
-        let number = kind_no(head, rest);
+        let number = kind_no(version, head, rest);
         if number != 0 {
             return Kinds { number, end: 0 };
         }
-        at += kind_length(rest);
+        at += kind_length(version, rest);
         left -= 1;
     }
     Kinds { number: 0, end: at }
 }
 
-// The starts of a kind that is right, in an array of sixteen.
-fn starts_of(s: &[u8], tries: u8) -> [u8; 16]
-    requires { ⌜ (tries ≤ 16) × (4 + tries ≤ length (now s)) ⌝ }
-    ensures { λ r. ⌜ r ≡ take tries (drop 4 (now (s .entry))) ++ replicate (16 - tries) 0 ⌝ }
+// So many starts of a kind that is right, from byte `first` on, in an array of sixteen.
+fn starts_of(s: &[u8], first: usize, tries: u8) -> [u8; 16]
+    requires { ⌜ (tries ≤ 16) × (first + tries ≤ length (now s)) ⌝ }
+    ensures { λ r. ⌜ r ≡ take tries (drop first (now (s .entry))) ++ replicate (16 - tries) 0 ⌝ }
 {
     let mut starts = [0u8; 16];
     let mut i: usize = 0;
     while i < tries as usize {
-        starts[i] = s[4 + i];
+        starts[i] = s[first + i];
         i += 1;
     }
     starts
 }
 
 // The values of a kind that is right; s begins at its first byte.
-fn kind_of(s: &[u8]) -> SheetKind
-    requires { ⌜ KindWhole (now s) ⌝ }
-    ensures { λ r. ⌜ r ≡ sheetKindOf (now (s .entry)) ⌝ }
+fn kind_of(version: u8, s: &[u8]) -> SheetKind
+    requires { ⌜ KindWhole version (now s) ⌝ }
+    ensures { λ r. ⌜ r ≡ sheetKindOf version (now (s .entry)) ⌝ }
 {
-    let tries = s[3];
-    let starts = starts_of(s, tries);
+    let tries = fields::byte_at(s, layout::tries_at(version));
+    let starts = starts_of(s, layout::starts_at(version), tries);
+    let shape = shapes::shape_of(version, s);
+    let flags = fields::byte_at(s, layout::flags_at(version));
     SheetKind {
-        size: s[0],
-        alignment: s[1],
-        flags: s[2],
+        shape,
+        flags,
         tries,
         starts,
     }
@@ -126,8 +128,10 @@ fn blank_kind() -> SheetKind
     ensures { λ r. ⌜ r ≡ blankKind ⌝ }
 {
     SheetKind {
-        size: 0,
-        alignment: 0,
+        shape: Shape {
+            size: 0,
+            alignment: 0,
+        },
         flags: 0,
         tries: 0,
         starts: [0u8; 16],
@@ -143,17 +147,17 @@ fn blank_kinds() -> [SheetKind; 8]
 }
 
 // The kinds of a sheet of which nothing is wrong, in an array of eight.
-fn kinds_of(head: Head, s: &[u8]) -> [SheetKind; 8]
-    requires { ⌜ KindsRight head (now s) ⌝ }
-    ensures { λ r. ⌜ r ≡ sheetKindsOf (drop 7 (now (s .entry))) (head .kinds) ++ replicate (8 - head .kinds) blankKind ⌝ }
+fn kinds_of(version: u8, head: Head, s: &[u8]) -> [SheetKind; 8]
+    requires { ⌜ KindsRight version head (now s) ⌝ }
+    ensures { λ r. ⌜ r ≡ sheetKindsOf version (drop kindsAt (now (s .entry))) (head .kinds) ++ replicate (8 - head .kinds) blankKind ⌝ }
 {
     let mut kinds = blank_kinds();
-    let mut at: usize = 7;
+    let mut at = KINDS_AT;
     let mut i: u8 = 0;
     while i < head.kinds {
         let rest = &s[at..];
-        kinds[i as usize] = kind_of(rest);
-        at += kind_length(rest);
+        kinds[i as usize] = kind_of(version, rest);
+        at += kind_length(version, rest);
         i += 1;
     }
     kinds
@@ -167,7 +171,7 @@ fn sheet_no(s: &[u8]) -> u8
     if opening != 0 {
         return opening;
     }
-    let kinds = kinds_no(fields::head_of(s), s);
+    let kinds = kinds_no(fields::version_of(s), fields::head_of(s), s);
     let end = kinds.end;
     fields::or_else(kinds.number, fields::left_over_no(s, end))
 }
@@ -177,9 +181,14 @@ fn sheet_of(s: &[u8]) -> Sheet
     requires { ⌜ sheetNo (now s) ≡ 0 ⌝ }
     ensures { λ r. ⌜ r ≡ sheetOf (now (s .entry)) ⌝ }
 {
+    let version = fields::version_of(s);
     let head = fields::head_of(s);
-    let kinds = kinds_of(head, s);
-    Sheet { head, kinds }
+    let kinds = kinds_of(version, head, s);
+    Sheet {
+        version,
+        head,
+        kinds,
+    }
 }
 
 // What stands in the place of a sheet that cannot be read.
@@ -193,7 +202,11 @@ fn blank_sheet() -> Sheet
         modulus: 0,
         kinds: 0,
     };
-    Sheet { head, kinds }
+    Sheet {
+        version: 0,
+        head,
+        kinds,
+    }
 }
 
 // Reads a sheet: every field of the head and the kinds, starts included, or the refusal's number.
@@ -215,16 +228,16 @@ pub fn read_sheet(s: &[u8]) -> SheetAnswer
     }
 }
 
-// Where kind k stands in a sheet that was read and has it: behind the kinds before it, each as long as its number of starts
-// says. Its first start stands four bytes further on.
-pub fn kind_at(s: &[u8], k: usize) -> usize
-    requires { ⌜ KindThere (now s) k ⌝ }
-    ensures { λ r. ⌜ r ≡ sheetKindAt (now (s .entry)) k ⌝ }
+// Where kind k stands in a sheet of this version that was read and has it: after the kinds before it, each as long as its
+// number of starts says.
+pub fn kind_at(version: u8, s: &[u8], k: usize) -> usize
+    requires { ⌜ KindThere version (now s) k ⌝ }
+    ensures { λ r. ⌜ r ≡ sheetKindAt version (now (s .entry)) k ⌝ }
 {
-    let mut at: usize = 7;
+    let mut at = KINDS_AT;
     let mut passed: usize = 0;
     while passed < k {
-        at += kind_length(&s[at..]);
+        at += kind_length(version, &s[at..]);
         passed += 1;
     }
     at

@@ -9,28 +9,35 @@ use lib.Dec.{ltb}
 use lib.ListN.{length, getD, take, drop}
 use mir.Syntax.{w8, w16, w64}
 use mir.Val.{Fits}
-use borrow.Author.Tests.{le-leb, lt-ltb, le-ltb}
+use borrow.Author.Tests.{le-leb, lt-leb, lt-ltb, le-ltb}
 use denote.Ref.{RefT}
 use denote.Slice.{slice-vals}
 use Rattle.convention.specs.declared.Head.{Head}
 use Rattle.convention.specs.declared.Table.{Table}
 use Rattle.convention.specs.declared.Transition.{Transition}
 use Rattle.convention.specs.Numbers.{unless}
-use Rattle.convention.specs.Fields.{headOf}
-use Rattle.convention.specs.Tables.{statesAt, transitionOf, isTransition, transitionNo, rowLength, rowAt, tableNo, transitionAt, rowNo, row, rowStart}
+use Rattle.convention.specs.Layout.{statesAt, transitionLength, rowLength, rowAt, transitionAt}
+use Rattle.convention.specs.Fields.{versionOf, headOf, stateField}
+use Rattle.convention.specs.Tables.{transitionOf, isTransition, transitionNo, tableNo, tableOf, rowNo, row, rowStart}
 use Rattle.convention.specs.Promised.{TableRead}
 use Rattle.convention.proofs.Numbers.{or-first, or-later}
-use Rattle.convention.proofs.Tables.{row-refused, row-part, row-is, row-start}
+use Rattle.convention.proofs.Positions.{transition-inside}
+use Rattle.convention.proofs.Tables.{row-refused, row-tests, row-part, row-is, row-start, table-read}
 use Rattle.table.specs.Asked.{InTable}
-use Rattle.table.specs.Rows.{behind, RowPart}
+use Rattle.table.specs.Rows.{after, RowPart}
 
--- The number of a transition whose four bytes are there.
-pub transition-number : (h : Head) (states : ℕ) (t : List ℕ) (at : ℕ) (x : Transition) (right b : Bool)
-    → at + 4 ≤ length t → x ≡ transitionOf t at → right ≡ isTransition h states x → right ≡ b → unless b 7 ≡ transitionNo h states t at
-unfolding transitionNo
-transition-number h states t at x right b l ex er eb = rw (← eb, er, ex, le-leb _ _ l)
+-- The number of a transition: its bytes are there, or they are not.
+module _ (v : ℕ) (h : Head) (states : ℕ) (t : List ℕ) (at long : ℕ) (e : long ≡ transitionLength v) where
+  pub transition-number : (x : Transition) (right : Bool) (number : ℕ) → at + long ≤ length t → x ≡ transitionOf v t at → right ≡ isTransition h states x
+      → number ≡ unless right 7 → number ≡ transitionNo v h states t at
+  unfolding transitionNo
+  transition-number x right number l ex er en = rw (en, er, ex, ← e, le-leb _ _ l)
 
--- The number of all transitions and the place where the rows end fit, whatever a byte says of the kinds and two bytes of the states.
+  pub transition-missing : length t < at + long → 3 ≡ transitionNo v h states t at
+  unfolding transitionNo
+  transition-missing l = rw (← e, lt-leb _ _ l)
+
+-- The number of all transitions fits, whatever a byte says of the kinds and two bytes of the states.
 product : (m n : ℕ) → Fits w8 m → Fits w16 n → m * n ≤ 255 * 65535
 product m n fm fn =
     let kinds : m ≤ 255 = omega arith in
@@ -40,14 +47,11 @@ product m n fm fn =
 pub count-fits : (m n : ℕ) → Fits w8 m → Fits w16 n → Fits w64 (m * n)
 count-fits m n fm fn = omega (arith, product m n fm fn)
 
-pub end-fits : (m n : ℕ) → Fits w8 m → Fits w16 n → rowAt m n < 2 ^ 64
-end-fits m n fm fn = omega (arith, product m n fm fn)
-
 -- The bytes of a transition that a table has lie within the table's.
 pub transition-within : (limit : ℕ) (table : Table) (t : List ℕ) (state k : ℕ) → TableRead limit table t → InTable table state k
-    → transitionAt (table .head .kinds) state k + 4 ≤ length t
+    → transitionAt (table .version) (table .head) state k + transitionLength (table .version) ≤ length t
 transition-within limit table t state k read asked =
-    omega (arith, read .whole, asked .kind, mul-le-mul-left (rowLength (table .head .kinds)) (asked .state))
+    rw (read .whole) (transition-inside (table .version) (table .head) (table .states) state (asked .state) k (asked .kind))
 
 -- A table that cannot be read gives the number of asking for a row; else the state does.
 module _ (limit : ℕ) (t : List ℕ) (state number : ℕ) (e : number ≡ tableNo limit t) where
@@ -55,10 +59,10 @@ module _ (limit : ℕ) (t : List ℕ) (state number : ℕ) (e : number ≡ table
   unfolding rowNo
   number-table nz = or-first _ _ number e nz
 
-  module _ (h : Head) (states : ℕ) (z : number ≡ 0) (eh : h ≡ headOf t) (es : states ≡ getD t (statesAt (h .kinds)) 0) where
+  module _ (v : ℕ) (h : Head) (states : ℕ) (z : number ≡ 0) (ev : v ≡ versionOf t) (eh : h ≡ headOf t) (es : states ≡ stateField v t (statesAt v h)) where
     number-state : (r : ℕ) → r ≡ unless (ltb state states) 13 → r ≡ rowNo limit t state
     unfolding rowNo
-    number-state r er = rw (← eh, ← es) (or-later _ _ number r e z er)
+    number-state r er = rw (← ev, ← eh, ← es) (or-later _ _ number r e z er)
 
     pub state-known : state < states → 0 ≡ rowNo limit t state
     state-known l = number-state 0 (rw (lt-ltb _ _ l))
@@ -75,21 +79,28 @@ module _ (limit : ℕ) (t : List ℕ) (state number : ℕ) (e : number ≡ rowNo
     pub refused-bytes : [] ≡ row limit t state
     refused-bytes = sym (none .0)
 
-    pub refused-place : (place : ℕ × ℕ) → place ≡ behind place (rowStart limit t state)
+    pub refused-place : (place : ℕ × ℕ) → place ≡ after place (rowStart limit t state)
     refused-place place = rw (none .1, zero-add)
 
-  module _ (h : Head) (z : number ≡ 0) (eh : h ≡ headOf t) where
-    pub row-within : rowAt (h .kinds) state + rowLength (h .kinds) ≤ length t
-    row-within = rw eh (row-part limit t state (sym e ∙ z))
+  -- The state is one of the table's, and so no more than the limit.
+  pub state-counted : number ≡ 0 → state < limit
+  unfolding tableOf
+  state-counted z =
+      let tests = row-tests limit t state (sym e ∙ z) in
+      omega (arith, tests .1, table-read limit t (tests .0) .states)
 
-    module _ (start : ℕ) (es : start ≡ rowAt (h .kinds) state) where
-      pub given-bytes : take (start + rowLength (h .kinds) - start) (drop start t) ≡ row limit t state
+  module _ (v : ℕ) (h : Head) (z : number ≡ 0) (ev : v ≡ versionOf t) (eh : h ≡ headOf t) where
+    module _ (start long : ℕ) (es : start ≡ rowAt v h state) (el : long ≡ rowLength v h) where
+      pub row-within : start + long ≤ length t
+      row-within = rw (es, el, ev, eh) (row-part limit t state (sym e ∙ z))
+
+      pub given-bytes : take (start + long - start) (drop start t) ≡ row limit t state
       given-bytes =
-          let long : start + rowLength (h .kinds) - start ≡ rowLength (h .kinds) = omega arith in
-          rw (long, es, eh) (sym (row-is limit t state (sym e ∙ z)))
+          let same : start + long - start ≡ long = omega arith in
+          rw (same, es, el, ev, eh) (sym (row-is limit t state (sym e ∙ z)))
 
-      pub given-place : (place : ℕ × ℕ) → behind place start ≡ behind place (rowStart limit t state)
-      given-place place = rw (row-start limit t state (sym e ∙ z), es, eh)
+      pub given-place : (place : ℕ × ℕ) → after place start ≡ after place (rowStart limit t state)
+      given-place place = rw (row-start limit t state (sym e ∙ z), es, ev, eh)
 
 -- Two answers of asking for a row are one slice: all that the machine has of a slice is its place and its count.
 pub row-unique : (limit : ℕ) (t : RefT (List ℕ)) (state : ℕ) (r r′ : RefT (List ℕ))

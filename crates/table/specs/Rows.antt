@@ -5,11 +5,11 @@ use mathlib.Core.List.{List}
 use denote.Ref.{RefT}
 use Rattle.convention.specs.Tables.{row, rowStart}
 
--- The place so many bytes behind another: a place is a block of memory and an offset in it.
-abbrev pub behind : ℕ × ℕ → ℕ → ℕ × ℕ
-behind place n = (place .0, n + place .1)
+-- The place so many bytes after another: a place is a block of memory and an offset in it.
+abbrev pub after : ℕ × ℕ → ℕ → ℕ × ℕ
+after place n = (place .0, n + place .1)
 
 -- 'Asking for a row returns the caller's own bytes of that state, 4m of them, and no copy': what the part r holds, and where in the caller's t it lies.
 pub record RowPart (limit : ℕ) (t : RefT (List ℕ)) (state : ℕ) (r : RefT (List ℕ)) : Type 0 where
   pub bytes : r .now ≡ row limit (t .now) state
-  pub place : r .ptr ≡ behind (t .ptr) (rowStart limit (t .now) state)
+  pub place : r .ptr ≡ after (t .ptr) (rowStart limit (t .now) state)

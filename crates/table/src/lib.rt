@@ -3,58 +3,57 @@
 // are, in the caller's bytes.
 use convention::Head;
 use convention::Reading;
+use convention::STATE_LIMIT;
+use convention::Shape;
 use convention::Table;
 use convention::TableAnswer;
-use convention::TableKind;
 use convention::Transition;
+use fields::layout;
+use fields::layout::A_AT;
+use fields::layout::B_AT;
+use fields::layout::FORM_AT;
+use fields::layout::KINDS_AT;
+use fields::layout::NEXT_AT;
+use fields::shapes;
 ghost use mathlib.Core.Path.{_≡_};
 ghost use mathlib.Core.Bool.{_&&_};
 ghost use mathlib.Core.List.{_++_};
-ghost use Prim.Native.Nat.{_+_, _-_, _*_, _≤_, _<_, _^_};
+ghost use Prim.Native.Nat.{_+_, _-_, _*_, _≤_};
 ghost use lib.Dec.{leb};
-ghost use lib.ListN.{length, getD, drop, replicate};
+ghost use lib.ListN.{length, drop, replicate};
 ghost use Rattle.convention.specs.Numbers.{stateLimit, orElse};
-ghost use Rattle.convention.specs.Fields.{fieldNo, kindsAt, leftOverNo};
-ghost use Rattle.convention.specs.Tables.{tableKindOf, tableKindsNo, tableKindsOf, blankTableKind, statesAt, transitionOf, isTransition, transitionNo, transitionsNo, rowsAt, rowAt, tableNo, tableOf, blankTable, readTable, transition, rowNo};
+ghost use Rattle.convention.specs.Layout.{kindsAt, statesAt, stateLength, rowsAt, transitionLength, tableLength};
+ghost use Rattle.convention.specs.Fields.{partNo, stateField, leftOverNo};
+ghost use Rattle.convention.specs.Sheets.{blankShape};
+ghost use Rattle.convention.specs.Tables.{tableKindsNo, tableKindsOf, transitionOf, isTransition, transitionNo, transitionsNo, tableNo, tableOf, blankTable, readTable, transition, rowNo};
 ghost use Rattle.convention.specs.Promised.{TableRead};
 ghost use Rattle.table.specs.Asked.{KindsThere, InTable};
 ghost use Rattle.table.specs.Rows.{RowPart};
 
 // The number of the kinds, 5 or 3 for the first that is wrong or missing, in a table that is at least as long as its head.
 // Each kind is parsed from the part of the table that starts at its first byte.
-fn kinds_no(head: Head, t: &[u8]) -> u8
+fn kinds_no(version: u8, head: Head, t: &[u8]) -> u8
     requires { ⌜ kindsAt ≤ length (now t) ⌝ }
-    ensures { λ r. ⌜ r ≡ tableKindsNo head (drop kindsAt (now (t .entry))) (head .kinds) ⌝ }
+    ensures { λ r. ⌜ r ≡ tableKindsNo version head (drop kindsAt (now (t .entry))) (head .kinds) ⌝ }
 {
-    let mut at: usize = 7;
+    let mut at = KINDS_AT;
     let mut left = head.kinds;
     while 0 < left {
-        let number = fields::shape_no(head, &t[at..]);
+        let number = shapes::shape_no(version, head, &t[at..]);
         if number != 0 {
             return number;
         }
-        at += 2;
+        at += layout::shape_length(version);
         left -= 1;
     }
     0
 }
 
-// The values of a kind that is there; s begins at its first byte.
-fn kind_of(s: &[u8]) -> TableKind
-    requires { ⌜ 2 ≤ length (now s) ⌝ }
-    ensures { λ r. ⌜ r ≡ tableKindOf (now (s .entry)) ⌝ }
-{
-    TableKind {
-        size: s[0],
-        alignment: s[1],
-    }
-}
-
 // What stands in the places of kinds that a table does not have: eight blank kinds, to be filled.
-fn blank_kinds() -> [TableKind; 8]
-    ensures { λ r. ⌜ r ≡ replicate 8 blankTableKind ⌝ }
+fn blank_kinds() -> [Shape; 8]
+    ensures { λ r. ⌜ r ≡ replicate 8 blankShape ⌝ }
 {
-    let blank = TableKind {
+    let blank = Shape {
         size: 0,
         alignment: 0,
     };
@@ -62,60 +61,46 @@ fn blank_kinds() -> [TableKind; 8]
 }
 
 // The kinds of a table that holds them all, in an array of eight.
-fn kinds_of(head: Head, t: &[u8]) -> [TableKind; 8]
-    requires { ⌜ KindsThere head (now t) ⌝ }
-    ensures { λ r. ⌜ r ≡ tableKindsOf (drop kindsAt (now (t .entry))) (head .kinds) ++ replicate (8 - head .kinds) blankTableKind ⌝ }
+fn kinds_of(version: u8, head: Head, t: &[u8]) -> [Shape; 8]
+    requires { ⌜ KindsThere version head (now t) ⌝ }
+    ensures { λ r. ⌜ r ≡ tableKindsOf version (drop kindsAt (now (t .entry))) (head .kinds) ++ replicate (8 - head .kinds) blankShape ⌝ }
 {
     let mut kinds = blank_kinds();
     let mut i: u8 = 0;
     while i < head.kinds {
-        let at = 7 + 2 * i as usize;
-        kinds[i as usize] = kind_of(&t[at..]);
+        let at = layout::table_kind_at(version, i);
+        kinds[i as usize] = shapes::shape_of(version, &t[at..]);
         i += 1;
     }
     kinds
 }
 
-// Where the number of states stands in a table of so many kinds. The first row starts one byte behind it.
-fn states_at(kinds: u8) -> usize
-    ensures { λ r. ⌜ r ≡ statesAt kinds ⌝ }
+// The number of states, as its bytes say it.
+fn states_of(version: u8, head: Head, t: &[u8]) -> u16
+    ensures { λ r. ⌜ r ≡ stateField version (now (t .entry)) (statesAt version head) ⌝ }
 {
-    7 + 2 * kinds as usize
+    fields::state_field(version, t, layout::states_at(version, head))
 }
 
-// Where the row of a state starts, which the caller knows to fit.
-pub fn row_at(kinds: u8, state: usize) -> usize
-    requires { ⌜ rowAt kinds state < 2 ^ 64 ⌝ }
-    ensures { λ r. ⌜ r ≡ rowAt kinds state ⌝ }
+// Number 4, or 3, for the number of states: 1 to `STATE_LIMIT`.
+fn states_no(version: u8, head: Head, states: u16, t: &[u8]) -> u8
+    ensures { λ r. ⌜ r ≡ partNo (now (t .entry)) (statesAt version head) (stateLength version) (leb 1 states && leb states stateLimit) 4 ⌝ }
 {
-    states_at(kinds) + 1 + 4 * kinds as usize * state
+    let right = (1 <= states) & (states as usize <= STATE_LIMIT);
+    let at = layout::states_at(version, head);
+    fields::part_no(t, at, layout::state_length(version), right, 4)
 }
 
-// The number of states, as its byte says it.
-fn states_of(head: Head, t: &[u8]) -> u16
-    ensures { λ r. ⌜ r ≡ getD (now (t .entry)) (statesAt (head .kinds)) 0 ⌝ }
-{
-    fields::byte_at(t, states_at(head.kinds)) as u16
-}
-
-// Number 4, or 3, for the number of states: 1 to 200.
-fn states_no(head: Head, states: u16, t: &[u8]) -> u8
-    ensures { λ r. ⌜ r ≡ fieldNo (now (t .entry)) (statesAt (head .kinds)) (leb 1 states && leb states stateLimit) 4 ⌝ }
-{
-    let right = (1 <= states) & (states <= 200);
-    fields::field_no(t, states_at(head.kinds), right, 4)
-}
-
-// The transition whose four bytes, which are there, begin at byte `at`.
-fn transition_at(t: &[u8], at: usize) -> Transition
-    requires { ⌜ at + 4 ≤ length (now t) ⌝ }
-    ensures { λ r. ⌜ r ≡ transitionOf (now (t .entry)) at ⌝ }
+// The transition whose bytes, which are there, begin at byte `at`.
+fn read_transition(version: u8, t: &[u8], at: usize) -> Transition
+    requires { ⌜ at + transitionLength version ≤ length (now t) ⌝ }
+    ensures { λ r. ⌜ r ≡ transitionOf version (now (t .entry)) at ⌝ }
 {
     Transition {
-        form: t[at],
-        a: t[at + 1],
-        b: t[at + 2],
-        next: t[at + 3] as u16,
+        form: t[at + FORM_AT],
+        a: t[at + A_AT],
+        b: t[at + B_AT],
+        next: fields::state_field(version, t, at + NEXT_AT),
     }
 }
 
@@ -133,50 +118,47 @@ fn is_transition(head: Head, states: u16, x: Transition) -> bool
     (x.form == 2) & (x.a < head.modulus) & (x.next < states)
 }
 
-// The number of the transition at byte `at`, which is no further than the table's end: 3 where its four bytes are not there,
-// 7 where they are wrong.
-fn transition_no(head: Head, states: u16, t: &[u8], at: usize) -> u8
+// The number of the transition at byte `at`, which is no further than the table's end: 3 where its bytes are not there, 7
+// where they are wrong.
+fn transition_no(version: u8, head: Head, states: u16, t: &[u8], at: usize) -> u8
     requires { ⌜ at ≤ length (now t) ⌝ }
-    ensures { λ r. ⌜ r ≡ transitionNo head states (now (t .entry)) at ⌝ }
+    ensures { λ r. ⌜ r ≡ transitionNo version head states (now (t .entry)) at ⌝ }
 {
-    if t.len() < at + 4 {
+    if t.len() < at + layout::transition_length(version) {
         return 3;
     }
-    if is_transition(head, states, transition_at(t, at)) {
-        0
-    } else {
-        7
-    }
+    let right = is_transition(head, states, read_transition(version, t, at));
+    fields::unless(right, 7)
 }
 
-// The number of `count` transitions one behind the other, from byte `first` on: that of the first that is missing or wrong.
-fn transitions_no(head: Head, states: u16, t: &[u8], first: usize, count: usize) -> u8
+// The number of `count` transitions one after the other, from byte `first` on: that of the first that is missing or wrong.
+fn transitions_no(version: u8, head: Head, states: u16, t: &[u8], first: usize, count: usize) -> u8
     requires { ⌜ first ≤ length (now t) ⌝ }
-    ensures { λ r. ⌜ r ≡ transitionsNo head states (now (t .entry)) first count ⌝ }
+    ensures { λ r. ⌜ r ≡ transitionsNo version head states (now (t .entry)) first count ⌝ }
 {
     let mut at = first;
     let mut left = count;
     while 0 < left {
-        let number = transition_no(head, states, t, at);
+        let number = transition_no(version, head, states, t, at);
         if number != 0 {
             return number;
         }
-        at += 4;
+        at += layout::transition_length(version);
         left -= 1;
     }
     0
 }
 
-// The number of what stands behind the number of states, which is there: that of the transitions, and then 6 for bytes left
+// The number of what stands after the number of states, which is there: that of the transitions, and then 6 for bytes left
 // over.
-fn rows_no(head: Head, states: u16, t: &[u8]) -> u8
-    requires { ⌜ rowsAt (head .kinds) ≤ length (now t) ⌝ }
-    ensures { λ r. ⌜ r ≡ orElse (transitionsNo head states (now (t .entry)) (rowsAt (head .kinds)) (head .kinds * states)) (leftOverNo (now (t .entry)) (rowAt (head .kinds) states)) ⌝ }
+fn rows_no(version: u8, head: Head, states: u16, t: &[u8]) -> u8
+    requires { ⌜ rowsAt version head ≤ length (now t) ⌝ }
+    ensures { λ r. ⌜ r ≡ orElse (transitionsNo version head states (now (t .entry)) (rowsAt version head) (head .kinds * states)) (leftOverNo (now (t .entry)) (tableLength version head states)) ⌝ }
 {
-    let first = states_at(head.kinds) + 1;
+    let first = layout::rows_at(version, head);
     let count = head.kinds as usize * states as usize;
-    let transitions = transitions_no(head, states, t, first, count);
-    let end = row_at(head.kinds, states as usize);
+    let transitions = transitions_no(version, head, states, t, first, count);
+    let end = layout::row_at(version, head, states);
     fields::or_else(transitions, fields::left_over_no(t, end))
 }
 
@@ -188,17 +170,18 @@ fn table_no(t: &[u8]) -> u8
     if opening != 0 {
         return opening;
     }
+    let version = fields::version_of(t);
     let head = fields::head_of(t);
-    let kinds = kinds_no(head, t);
+    let kinds = kinds_no(version, head, t);
     if kinds != 0 {
         return kinds;
     }
-    let states = states_of(head, t);
-    let number = states_no(head, states, t);
+    let states = states_of(version, head, t);
+    let number = states_no(version, head, states, t);
     if number != 0 {
         return number;
     }
-    rows_no(head, states, t)
+    rows_no(version, head, states, t)
 }
 
 // The fields of a table that can be read.
@@ -206,10 +189,12 @@ fn table_of(t: &[u8]) -> Table
     requires { ⌜ tableNo stateLimit (now t) ≡ 0 ⌝ }
     ensures { λ r. ⌜ r ≡ tableOf (now (t .entry)) ⌝ }
 {
+    let version = fields::version_of(t);
     let head = fields::head_of(t);
-    let kinds = kinds_of(head, t);
-    let states = states_of(head, t);
+    let kinds = kinds_of(version, head, t);
+    let states = states_of(version, head, t);
     Table {
+        version,
         head,
         kinds,
         states,
@@ -228,6 +213,7 @@ fn blank_table() -> Table
         kinds: 0,
     };
     Table {
+        version: 0,
         head,
         kinds,
         states: 0,
@@ -253,15 +239,20 @@ pub fn read_table(t: &[u8]) -> TableAnswer
     }
 }
 
-// The transition of a kind at a state, both of which the table has; the table is what was read from t. Four bytes are read
-// and nothing is searched.
+// The transition of a kind at a state, both of which the table has; the table is what was read from t. Its bytes are read and
+// nothing is searched.
 pub fn transition_of(table: Table, t: &[u8], state: u16, kind: u8) -> Transition
     requires { ⌜ TableRead stateLimit table (now t) ⌝ }
     requires { ⌜ InTable table state kind ⌝ }
     ensures { λ r. ⌜ r ≡ transition table (now (t .entry)) state kind ⌝ }
 {
+    let version = table.version;
     let head = table.head;
-    transition_at(t, row_at(head.kinds, state as usize) + 4 * kind as usize)
+    read_transition(
+        version,
+        t,
+        layout::transition_at(version, head, state, kind),
+    )
 }
 
 // The number of asking for the row of a state, whatever the bytes and the state: the reader's, 13 where the table has no
@@ -273,20 +264,21 @@ pub fn row_no(t: &[u8], state: usize) -> u8
     if number != 0 {
         return number;
     }
-    let states = states_of(fields::head_of(t), t);
+    let states = states_of(fields::version_of(t), fields::head_of(t), t);
     if state < states as usize { 0 } else { 13 }
 }
 
-// The row of a state: the caller's own bytes, four for each kind, and no copy, which lie `row_at` bytes behind the table's
-// first; or the empty part of the table, at its first byte, which refuses.
+// The row of a state: the caller's own bytes, a transition for each kind, and no copy, which lie `layout::row_at` bytes after
+// the table's first; or the empty part of the table, at its first byte, which refuses.
 pub fn row(t: &[u8], state: usize) -> &[u8]
     ensures { λ r. ⌜ RowPart stateLimit (t .entry) state r ⌝ }
 {
     if row_no(t, state) != 0 {
         return &t[..0];
     }
+    let version = fields::version_of(t);
     let head = fields::head_of(t);
-    let start = row_at(head.kinds, state);
-    let end = start + 4 * head.kinds as usize;
+    let start = layout::row_at(version, head, state as u16);
+    let end = start + layout::row_length(version, head);
     &t[start..end]
 }

@@ -13,8 +13,10 @@ use Rattle.convention.specs.declared.Judging.{Judging}
 use Rattle.convention.specs.declared.Judging.the-variants.{Clean, Fault}
 use Rattle.convention.specs.declared.Placing.{Placing}
 use Rattle.convention.specs.Numbers.{stateLimit, argumentLimit, orElse, unless, reading, readingNo, refusal, placingSays, buildingSays, judgingSays}
-use Rattle.convention.specs.Tables.{tableNo, tableOf, tableKind, readTable, rowNo, rowAt, row}
-use Rattle.convention.specs.Fields.{headOf}
+use Rattle.convention.specs.declared.Head.{Head}
+use Rattle.convention.specs.Layout.{startsAt, rowAt}
+use Rattle.convention.specs.Fields.{versionOf, headOf}
+use Rattle.convention.specs.Tables.{tableNo, tableOf, statesOf, tableKind, readTable, rowNo, row}
 use Rattle.convention.specs.declared.TableAnswer.{TableAnswer}
 use Rattle.convention.specs.declared.SheetAnswer.{SheetAnswer}
 use Rattle.convention.specs.Lists.{Steps, recordLength, unknownAt, faultFrom, stopFrom, stateFrom, placing, placingAnswer, walkAnswer}
@@ -25,21 +27,22 @@ use Rattle.convention.specs.Built.{builtStates, builtTable, buildNo, buildAnswe
 use Rattle.convention.specs.Judged.{Judges}
 use Rattle.convention.proofs.Lists.{stop-le}
 use Rattle.convention.proofs.Numbers.{or-zero, or-first, or-later, unless-zero}
-use Rattle.convention.proofs.Tables.{table-read, row-refused, row-tests, row-start, row-length, row-some}
+use Rattle.convention.proofs.Positions.{table-most, length-said}
+use Rattle.convention.proofs.Tables.{table-read, row-refused, row-tests, row-part, row-start, row-length, row-some}
 use Rattle.convention.proofs.Sheets.{sheet-read, first-start-fits}
 use Rattle.sheet.specs.Kinds.{KindThere}
-use Rattle.building.proofs.Bytes.{table-most}
+use Rattle.building.proofs.Bytes.{built-most}
 use Rattle.judging.proofs.Unique.{judge-zero, unique}
 use Rattle.teaselram.specs.declared.Answer.{Answer}
 use Rattle.teaselram.specs.declared.KindAnswer.{KindAnswer}
-use Rattle.teaselram.specs.Says.{answerOf, askedNo, kindRefusal, kindGiven, sheetKindFields, tableKindFields, sheetKindSays, tableKindSays, rowSays, CountFits, LengthFits, ListFits, JudgeSays}
+use Rattle.teaselram.specs.Says.{answerOf, askedNo, kindRefusal, kindGiven, sheetKindFields, tableKindFields, sheetKindSays, tableKindSays, rowSays, JudgeSays}
 
 -- An answer that is known to be one of its cases says what that case says.
 pub known-says : (placing known : Placing) (a : Answer) → placing ≡ known → a ≡ answerOf (placingSays known) → a ≡ answerOf (placingSays placing)
 known-says placing known a e is = rw e is
 
-pub known-fits : (placing known : Placing) → CountFits placing → placing ≡ known → placingSays known .count < 65536
-known-fits placing known fits e = rw e at (fits .fits)
+pub known-fits : (placing known : Placing) → placingSays placing .count < 2 ^ 16 → placing ≡ known → placingSays known .count < 2 ^ 16
+known-fits placing known fits e = rw e at fits
 
 -- A call places at most as many arguments as the limit, so its count is no larger.
 pub count-most : (limit number m : ℕ) (M : Steps) (ks : List ℕ) (room : ℕ) → placingSays (placing limit number m M ks room) .count ≤ limit
@@ -67,15 +70,15 @@ count-most limit number m M ks room = go (orElse number (orElse few roomy)) refl
     go (suc n) e = omega arith
 
 -- The count of placing by the rules fits, and that of placing by a table.
-pub rules-count : (s ks : List ℕ) (room : ℕ) (answer : Placing) → answer ≡ placeByRules argumentLimit s ks room → CountFits answer
+pub rules-count : (s ks : List ℕ) (room : ℕ) (answer : Placing) → answer ≡ placeByRules argumentLimit s ks room → placingSays answer .count < 2 ^ 16
 unfolding placeByRules
 rules-count s ks room answer e =
-    rw e (record { fits = omega (arith, count-most argumentLimit (sheetNo s) (sheetOf s .head .kinds) (byRules (sheetOf s)) ks room) })
+    rw e (omega (arith, count-most argumentLimit (sheetNo s) (sheetOf s .head .kinds) (byRules (sheetOf s)) ks room))
 
-pub table-count : (t ks : List ℕ) (room : ℕ) (answer : Placing) → answer ≡ placeByTable stateLimit argumentLimit t ks room → CountFits answer
+pub table-count : (t ks : List ℕ) (room : ℕ) (answer : Placing) → answer ≡ placeByTable stateLimit argumentLimit t ks room → placingSays answer .count < 2 ^ 16
 unfolding placeByTable
 table-count t ks room answer e =
-    rw e (record { fits = omega (arith, count-most argumentLimit (tableNo stateLimit t) (tableOf t .head .kinds) (byTable (tableOf t) t) ks room) })
+    rw e (omega (arith, count-most argumentLimit (tableNo stateLimit t) (tableOf t .head .kinds) (byTable (tableOf t) t) ks room))
 
 -- The row's part: where it is empty, it was refused, since a row never is; where it is not, it was given, and its start and length fit.
 module _ (t : List ℕ) (state : ℕ) (part : List ℕ) (ep : part ≡ row stateLimit t state) where
@@ -95,33 +98,29 @@ module _ (t : List ℕ) (state : ℕ) (part : List ℕ) (ep : part ≡ row state
         go zero e = e
         go (suc n) e = absurd (some (rw (ep, row-refused stateLimit t state (λ z. omega arith) .0)))
 
-    -- Its length says how many kinds there are.
-    part-length : length part ≡ 4 * headOf t .kinds
-    part-length = rw ep (row-length stateLimit t state given)
-
-    kinds-are : length part / 4 ≡ headOf t .kinds
-    kinds-are = omega (arith, part-length)
-
-    -- A table of at most 200 states and 8 kinds has at most 6,424 bytes, and a row at most 32.
-    row-bounds : (length part ≤ 32) × (rowAt (length part / 4) state ≤ 6424)
+    -- The state is one of the table's, and the row ends within it.
+    pub state-few : state < stateLimit
     unfolding tableOf
-    row-bounds =
-        let tests = row-tests stateLimit t state given in
-        let promised = table-read stateLimit t (tests .0) in
-        let row : 4 * headOf t .kinds ≤ 32 = omega (arith, promised .head .kinds) in
-        let before : state ≤ 200 = omega (arith, tests .1, promised .states) in
-        (omega (arith, part-length), rw kinds-are (omega (arith, mul-le-mul row before)))
+    state-few = let tests = row-tests stateLimit t state given in omega (arith, tests .1, table-read stateLimit t (tests .0) .states)
 
-    pub part-short : length part ≤ 32
-    part-short = row-bounds .0
+    row-ends : rowAt (versionOf t) (headOf t) state + length part < 65536
+    unfolding tableOf
+    row-ends =
+        let promised = table-read stateLimit t (row-tests stateLimit t state given .0) in
+        let most = table-most (versionOf t) (headOf t) (statesOf t) stateLimit (promised .head .kinds) (promised .states) in
+        rw (ep, row-length stateLimit t state given)
+        (omega (arith, row-part stateLimit t state given, promised .whole, most, length-said (versionOf t)))
 
-    pub start-fits : rowAt (length part / 4) state < 2 ^ 32
-    start-fits = omega (arith, row-bounds .1)
+    pub part-short : length part < 65536
+    part-short = omega (arith, row-ends)
 
-    pub row-given : (start : ℕ) → start ≡ rowAt (length part / 4) state
+    pub start-fits : (v : ℕ) (h : Head) → v ≡ versionOf t → h ≡ headOf t → rowAt v h state < 65536
+    start-fits v h ev eh = rw (ev, eh) (omega (arith, row-ends))
+
+    pub row-given : (v : ℕ) (h : Head) (start : ℕ) → v ≡ versionOf t → h ≡ headOf t → start ≡ rowAt v h state
         → _≡_ {A = Answer} (record { number = 0; fault = 0; count = length part; value = start }) (answerOf (rowSays stateLimit t state))
     unfolding rowSays
-    row-given start es = rw (given, row-start stateLimit t state given, es, kinds-are, ep)
+    row-given v h start ev eh es = rw (given, row-start stateLimit t state given, es, ev, eh, ep)
 
 -- Asking for a kind of a file: the reader's number decides, and then the kind's.
 module _ (n m k number : ℕ) (e : number ≡ n) where
@@ -164,20 +163,20 @@ module _ (s : List ℕ) (k number : ℕ) (a : SheetAnswer) (ea : a ≡ readSheet
     sheet-known : (sheetNo s ≡ 0) × (k < headOf s .kinds)
     sheet-known = kind-known (sheetNo s) (headOf s .kinds) k number sheet-number z
 
-    pub sheet-kind-there : KindThere s k
-    sheet-kind-there = record { read = sheet-known .0; known = sheet-known .1 }
+    pub sheet-kind-there : (v : ℕ) → v ≡ versionOf s → KindThere v s k
+    sheet-kind-there v ev = record { read = sheet-known .0; version = ev; known = sheet-known .1 }
 
     pub sheet-kind-below : k < 8
     unfolding sheetOf
     sheet-kind-below = omega (arith, sheet-read s (sheet-known .0) .head .kinds, sheet-known .1)
 
-    pub first-start-below : firstStartAt s k < 65536
-    first-start-below = first-start-fits s (sheet-known .0) k (sheet-known .1)
+    module _ (v at starts : ℕ) (ev : v ≡ versionOf s) (e : at ≡ sheetKindAt v s k) (es : starts ≡ startsAt v) where
+      pub first-start-below : at + starts < 65536
+      first-start-below = rw (e, es, ev) (first-start-fits s (sheet-known .0) k (sheet-known .1))
 
-    pub sheet-kind-given : (at : ℕ) (answer : KindAnswer) → at ≡ sheetKindAt s k → answer ≡ sheetKindFields (sheetKind (a .sheet) k) (at + 4)
-        → answer ≡ sheetKindSays s k
-    unfolding sheetKindSays readSheet
-    sheet-kind-given at answer e is = rw (sym sheet-number ∙ z, is, ea, e, sheet-known .0)
+      pub sheet-kind-given : (answer : KindAnswer) → answer ≡ sheetKindFields (sheetKind (a .sheet) k) (at + starts) → answer ≡ sheetKindSays s k
+      unfolding sheetKindSays readSheet
+      sheet-kind-given answer is = rw (sym sheet-number ∙ z, is, ea, e, es, ev, sheet-known .0)
 
 module _ (t : List ℕ) (k number : ℕ) (a : TableAnswer) (ea : a ≡ readTable stateLimit t)
     (en : number ≡ askedNo (readingNo (a .reading)) (a .table .head .kinds) k) where
@@ -205,34 +204,40 @@ module _ (t : List ℕ) (k number : ℕ) (a : TableAnswer) (ea : a ≡ readTable
 pub known-building : (building known : Building) (a : Answer) → building ≡ known → a ≡ answerOf (buildingSays known) → a ≡ answerOf (buildingSays building)
 known-building building known a e is = rw e is
 
-pub length-known : (building known : Building) → LengthFits building → building ≡ known → buildingSays known .value < 2 ^ 32
-length-known building known fits e = rw e at (fits .fits)
+pub length-known : (building known : Building) → buildingSays building .value < 2 ^ 32 → building ≡ known → buildingSays known .value < 2 ^ 32
+length-known building known fits e = rw e at fits
 
 -- A verdict that is known says what its case says; its list fits.
 pub known-verdict : (verdict known : Judging) (a : Answer) → verdict ≡ known → a ≡ answerOf (judgingSays known) → a ≡ answerOf (judgingSays verdict)
 known-verdict verdict known a e is = rw e is
 
-pub list-known : (verdict known : Judging) → ListFits verdict → verdict ≡ known → judgingSays known .count < 65536
-list-known verdict known fits e = rw e at (fits .fits)
+pub list-known : (verdict known : Judging) → judgingSays verdict .count < 2 ^ 16 → verdict ≡ known → judgingSays known .count < 2 ^ 16
+list-known verdict known fits e = rw e at fits
 
 -- The length of a table that is built fits.
-pub length-fits : (s : List ℕ) (room : ℕ) (building : Building) → building ≡ build stateLimit s room → LengthFits building
+pub length-fits : (s : List ℕ) (room : ℕ) (building : Building) → building ≡ build stateLimit s room → buildingSays building .value < 2 ^ 32
 unfolding build buildNo
-length-fits s room building e = rw e (record { fits = omega (arith, most (buildNo stateLimit s room) refl) })
+length-fits s room building e = rw e (omega (arith, most (buildNo stateLimit s room) refl))
   where
     most : (n : ℕ) → buildNo stateLimit s room ≡ n
-        → buildingSays (buildAnswer n (length (builtStates stateLimit (sheetOf s))) (length (builtTable stateLimit (sheetOf s)))) .value ≤ 6424
-    most zero z = let both = or-zero (sheetNo s) _ z in table-most s (both .0) (or-zero (statesNumber stateLimit (sheetOf s)) _ (both .1) .0)
+        → buildingSays (buildAnswer n (length (builtStates stateLimit (sheetOf s))) (length (builtTable stateLimit (sheetOf s)))) .value < 65536
+    most zero z =
+        let both = or-zero (sheetNo s) _ z in
+        omega (
+          arith,
+          built-most stateLimit s (both .0) (or-zero (statesNumber stateLimit (sheetOf s)) _ (both .1) .0),
+          length-said 1,
+        )
     most (suc n) z = omega arith
 
--- A verdict's list has at most 2N kinds, which are at most 400.
-pub list-fits : (t before : List ℕ) (verdict : Judging) (after : List ℕ) → Judges stateLimit t before verdict after → ListFits verdict
+-- A verdict's list has at most 2N kinds.
+pub list-fits : (t before : List ℕ) (verdict : Judging) (after : List ℕ) → Judges stateLimit t before verdict after → judgingSays verdict .count < 2 ^ 16
 unfolding Judges
-list-fits t before Clean after means = record { fits = omega arith }
+list-fits t before Clean after means = omega arith
 list-fits t before (Fault fault n) after means =
     let promised = table-read stateLimit t (judge-zero stateLimit t (length before) (means .0) .0) in
-    record { fits = omega (arith, means .1, promised .states) }
-list-fits t before (Judging.Refused number) after means = record { fits = omega arith }
+    omega (arith, means .1, promised .states)
+list-fits t before (Judging.Refused number) after means = omega arith
 
 -- Two answers of the judge's call are equal, and so is the memory.
 pub judge-unique : (limit : ℕ) (t before : List ℕ) (a b : Answer) (after after′ : List ℕ)

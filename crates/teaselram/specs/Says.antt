@@ -1,20 +1,18 @@
 -- What the structs of the boundary say: for each answer of crates/convention, 01's number and values, field by field.
-use Prim.Native.Nat.{ℕ, zero, suc, _<_, _^_}
+use Prim.Native.Nat.{ℕ, zero, suc}
 use mathlib.Core.Path.{_≡_}
 use mathlib.Core.List.{List}
 use lib.Dec.{ltb}
 use lib.ListN.{length}
 use Rattle.convention.specs.declared.Head.{Head}
-use Rattle.convention.specs.declared.Placing.{Placing}
-use Rattle.convention.specs.declared.Building.{Building}
 use Rattle.convention.specs.declared.Judging.{Judging}
 use Rattle.convention.specs.declared.SheetKind.{SheetKind}
 use Rattle.convention.specs.declared.SheetAnswer.{SheetAnswer}
-use Rattle.convention.specs.declared.TableKind.{TableKind}
+use Rattle.convention.specs.declared.Shape.{Shape}
 use Rattle.convention.specs.declared.TableAnswer.{TableAnswer}
-use Rattle.convention.specs.Numbers.{Said, orElse, unless, readingNo, placingSays, buildingSays, judgingSays}
+use Rattle.convention.specs.Numbers.{Said, orElse, unless, readingNo, judgingSays}
 use Rattle.convention.specs.Judged.{Judges}
-use Rattle.convention.specs.Fields.{headOf}
+use Rattle.convention.specs.Fields.{versionOf, headOf}
 use Rattle.convention.specs.Sheets.{sheetNo, sheetOf, sheetKind, firstStartAt}
 use Rattle.convention.specs.Tables.{tableNo, tableOf, tableKind, rowNo, row, rowStart}
 use Rattle.teaselram.specs.declared.Answer.{Answer}
@@ -44,11 +42,11 @@ abbrev pub tableSays : TableAnswer → HeadAnswer
 tableSays a = headSays (readingNo (a .reading)) (a .table .head) (a .table .states)
 
 -- The fields of `teaselram_kind`: of a kind that the file has, and of one that is refused.
-abbrev pub kindSays : ℕ → ℕ → ℕ → ℕ → ℕ → KindAnswer
-kindSays size alignment flags starts first = record {
+abbrev pub kindSays : Shape → ℕ → ℕ → ℕ → KindAnswer
+kindSays shape flags starts first = record {
   number = 0;
-  size = size;
-  alignment = alignment;
+  size = shape .size;
+  alignment = shape .alignment;
   flags = flags;
   starts = starts;
   zero = 0;
@@ -68,13 +66,13 @@ askedNo number m k = orElse number (unless (ltb k m) 9)
 
 -- A sheet's kind: every field but the starts, and where in the sheet the first of them stands. A table's kind: size and alignment.
 abbrev pub sheetKindFields : SheetKind → ℕ → KindAnswer
-sheetKindFields kind first = kindSays (kind .size) (kind .alignment) (kind .flags) (kind .tries) first
+sheetKindFields kind first = kindSays (kind .shape) (kind .flags) (kind .tries) first
 
-abbrev pub tableKindFields : TableKind → KindAnswer
-tableKindFields kind = kindSays (kind .size) (kind .alignment) 0 0 0
+abbrev pub tableKindFields : Shape → KindAnswer
+tableKindFields shape = kindSays shape 0 0 0
 
 unfoldable pub sheetKindSays : List ℕ → ℕ → KindAnswer
-sheetKindSays s k = kindGiven (askedNo (sheetNo s) (headOf s .kinds) k) (sheetKindFields (sheetKind (sheetOf s) k) (firstStartAt s k))
+sheetKindSays s k = kindGiven (askedNo (sheetNo s) (headOf s .kinds) k) (sheetKindFields (sheetKind (sheetOf s) k) (firstStartAt (versionOf s) s k))
 
 unfoldable pub tableKindSays : ℕ → List ℕ → ℕ → KindAnswer
 tableKindSays limit t k = kindGiven (askedNo (tableNo limit t) (headOf t .kinds) k) (tableKindFields (tableKind (tableOf t) k))
@@ -82,17 +80,6 @@ tableKindSays limit t k = kindGiven (askedNo (tableNo limit t) (headOf t .kinds)
 -- Asking for a row: the number, how long the part is, and where it starts in the table. A part that is refused is empty and starts at 0.
 unfoldable pub rowSays : ℕ → List ℕ → ℕ → Said
 rowSays limit t state = record { number = rowNo limit t state; fault = 0; count = length (row limit t state); value = rowStart limit t state }
-
--- The count of an answer of placing fits its two bytes.
-pub record CountFits (placing : Placing) : Type 0 where
-  pub fits : placingSays placing .count < 65536
-
--- The length of a table that was built fits its four bytes, and the length of a verdict's list its two.
-pub record LengthFits (building : Building) : Type 0 where
-  pub fits : buildingSays building .value < 2 ^ 32
-
-pub record ListFits (verdict : Judging) : Type 0 where
-  pub fits : judgingSays verdict .count < 65536
 
 -- The judge's answer says what a verdict says that `Judges` allows.
 pub record JudgeSays (limit : ℕ) (t before : List ℕ) (a : Answer) (after : List ℕ) : Type 0 where

@@ -6,7 +6,10 @@ use convention::Head;
 use convention::Judging;
 use convention::Placing;
 use convention::Reading;
+use convention::Shape;
+use fields::layout;
 ghost use mathlib.Core.Path.{_≡_};
+ghost use Prim.Native.Nat.{_<_, _^_};
 ghost use lib.ListN.{length};
 ghost use Rattle.convention.specs.Numbers.{stateLimit, argumentLimit, readingNo, placingSays, buildingSays, judgingSays};
 ghost use Rattle.convention.specs.Built.{build, buildMemory};
@@ -14,7 +17,7 @@ ghost use Rattle.convention.specs.Sheets.{readSheet};
 ghost use Rattle.convention.specs.Tables.{readTable};
 ghost use Rattle.convention.specs.Rules.{placeByRules, rulesMemory};
 ghost use Rattle.convention.specs.Walked.{placeByTable, tableMemory};
-ghost use Rattle.teaselram.specs.Says.{answerOf, headSays, sheetSays, tableSays, askedNo, kindRefusal, kindSays, sheetKindSays, tableKindSays, rowSays, CountFits, LengthFits, ListFits, JudgeSays};
+ghost use Rattle.teaselram.specs.Says.{answerOf, headSays, sheetSays, tableSays, askedNo, kindRefusal, kindSays, sheetKindSays, tableKindSays, rowSays, JudgeSays};
 
 #[repr(C)]
 pub struct Answer {
@@ -68,7 +71,7 @@ fn refusal(number: u8) -> Answer
 
 // What an answer of placing says in 01's numbers. A call places at most 400 arguments, so the count fits.
 fn placing_says(placing: Placing) -> Answer
-    requires { ⌜ CountFits placing ⌝ }
+    requires { ⌜ placingSays placing .count < 2 ^ 16 ⌝ }
     ensures { λ r. ⌜ r ≡ answerOf (placingSays placing) ⌝ }
 {
     match placing {
@@ -96,7 +99,7 @@ fn placing_says(placing: Placing) -> Answer
 
 // What an answer of building says: N and the table's length, which fits.
 fn building_says(building: Building) -> Answer
-    requires { ⌜ LengthFits building ⌝ }
+    requires { ⌜ buildingSays building .value < 2 ^ 32 ⌝ }
     ensures { λ r. ⌜ r ≡ answerOf (buildingSays building) ⌝ }
 {
     match building {
@@ -112,7 +115,7 @@ fn building_says(building: Building) -> Answer
 
 // What a verdict says: fault number and list length, both 0 where clean. A list has at most 400 kinds, so its length fits.
 fn judging_says(verdict: Judging) -> Answer
-    requires { ⌜ ListFits verdict ⌝ }
+    requires { ⌜ judgingSays verdict .count < 2 ^ 16 ⌝ }
     ensures { λ r. ⌜ r ≡ answerOf (judgingSays verdict) ⌝ }
 {
     match verdict {
@@ -169,13 +172,13 @@ fn kind_refusal(number: u8) -> KindAnswer
 }
 
 // What it says of a kind that the file has.
-fn kind_says(size: u8, alignment: u8, flags: u8, starts: u8, first_start: u16) -> KindAnswer
-    ensures { λ r. ⌜ r ≡ kindSays size alignment flags starts «first_start» ⌝ }
+fn kind_says(shape: Shape, flags: u8, starts: u8, first_start: u16) -> KindAnswer
+    ensures { λ r. ⌜ r ≡ kindSays shape flags starts «first_start» ⌝ }
 {
     KindAnswer {
         number: 0,
-        size,
-        alignment,
+        size: shape.size,
+        alignment: shape.alignment,
         flags,
         starts,
         zero: 0,
@@ -224,8 +227,10 @@ pub extern "C" fn teaselram_sheet_kind(sheet: &[u8], kind: u64) -> KindAnswer
     }
     let kinds = given.kinds;
     let asked = kinds[kind as usize];
-    let first = (sheet::kind_at(sheet, kind as usize) + 4) as u16;
-    kind_says(asked.size, asked.alignment, asked.flags, asked.tries, first)
+    let version = fields::version_of(sheet);
+    let at = sheet::kind_at(version, sheet, kind as usize);
+    let first = (at + layout::starts_at(version)) as u16;
+    kind_says(asked.shape, asked.flags, asked.tries, first)
 }
 
 // Asks for one kind of a table, by any number: its size and alignment. Every other field is 0.
@@ -243,7 +248,7 @@ pub extern "C" fn teaselram_table_kind(table: &[u8], kind: u64) -> KindAnswer
     }
     let shapes = given.kinds;
     let shape = shapes[kind as usize];
-    kind_says(shape.size, shape.alignment, 0, 0, 0)
+    kind_says(shape, 0, 0, 0)
 }
 
 // Places a list of kinds by the rules of a sheet.
@@ -296,9 +301,9 @@ pub extern "C" fn teaselram_row(table: &[u8], state: u64) -> Answer
     if length == 0 {
         return refusal(table::row_no(table, state as usize));
     }
-    // A row has four bytes a kind, and lies `row_at` bytes behind the table's first.
-    let kinds = (length / 4) as u8;
-    let start = table::row_at(kinds, state as usize);
+    let version = fields::version_of(table);
+    let head = fields::head_of(table);
+    let start = layout::row_at(version, head, state as u16);
     Answer {
         number: 0,
         fault: 0,

@@ -1,16 +1,14 @@
 -- What placing by a table gives where no step is faulty: places that are right for their kinds and apart from one another, and a p within bounds.
-use Prim.Native.Nat.{ℕ, zero, suc, _+_, _*_, _%_, _≤_, _<_}
+use Prim.Native.Nat.{ℕ, zero, suc, _+_, _*_, _≤_, _<_}
 use mathlib.Core.Path.{_≡_, refl, _∙_}
 use mathlib.Core.Logic.{inl, inr}
-use mathlib.Core.Bool.{Bool, true, false}
+use mathlib.Core.Bool.{Bool, true}
 use mathlib.Core.List.{List, [], _∷_}
 use native.Mathlib.Nat.{le-of-suc-le-suc, le-trans}
 use native.Mathlib.Omega.{arith}
-use lib.Dec.{eqb, lit<}
 use lib.ListN.{length, getD}
-use borrow.Author.Tests.{leb-true, eqb-true}
 use Rattle.convention.specs.declared.Head.{Head}
-use Rattle.convention.specs.declared.TableKind.{TableKind}
+use Rattle.convention.specs.declared.Shape.{Shape}
 use Rattle.convention.specs.declared.Table.{Table}
 use Rattle.convention.specs.declared.Transition.{Transition}
 use Rattle.convention.specs.declared.Offset.{Offset}
@@ -18,68 +16,47 @@ use Rattle.convention.specs.declared.ByTable.{ByTable}
 use Rattle.convention.specs.declared.Placement.{Placement}
 use Rattle.convention.specs.declared.Placement.the-variants.{Nowhere}
 use Rattle.convention.specs.declared.Placing.the-variants.{Placed}
-use Rattle.convention.specs.Numbers.{stateLimit, argumentLimit, unless}
+use Rattle.convention.specs.Numbers.{stateLimit, argumentLimit}
 use Rattle.convention.specs.Tables.{tableNo, tableKind, transition, isTransition, tableOf}
-use Rattle.convention.specs.Rules.{freeRun}
-use Rattle.convention.specs.Lists.{faultFrom, stateFrom, placesFrom}
+use Rattle.convention.specs.Lists.{faultFrom, stateFrom, placesFrom, KindsBelow}
 use Rattle.convention.specs.Walked.{tablePlace, tableFault, tableAfter, byTable, placeByTable}
-use Rattle.convention.specs.Judged.{KindsBelow}
 use Rattle.convention.specs.WellPlaced.{Share, Right}
 use Rattle.convention.specs.Promised.{TableRead, HeadRead, ShapeRead}
-use Rattle.convention.proofs.Numbers.{or-zero, unless-zero}
+use Rattle.convention.proofs.Numbers.{or-zero}
 use Rattle.convention.proofs.Offsets.{least-ge, offset-residue, divides}
 use Rattle.convention.proofs.Tables.{table-read, transition-registers, transition-residue, transition-next}
-use Rattle.convention.proofs.Runs.{either}
-use Rattle.places.specs.Ends.{runEnd}
+use Rattle.convention.proofs.Walked.{step-cases, registers-clean, stack-clean}
+use Rattle.places.specs.Walks.{stepMost}
 use Rattle.places.proofs.Accepted.{accepted}
 use Rattle.places.proofs.Apart.{FreeIn, FromP, StepGives, place-length, apart}
-use Rattle.walking.proofs.Steps.{reach}
+use Rattle.walking.proofs.Steps.{reach, step-ends}
 
--- A step without a fault, with registers and with the stack.
-module _ (h : Head) (kind : TableKind) (x : Transition) (given : List Bool) (e : tableFault h kind x given ≡ 0) where
-  registers-clean : eqb (x .form) 1 ≡ true → (freeRun given (x .a) (x .b) ≡ true) × (kind .size ≤ x .b * h .width)
-  unfolding tableFault
-  registers-clean f =
-      let both = or-zero (unless (freeRun given (x .a) (x .b)) 2) _ (rw f at e) in
-      (unless-zero _ 2 (lit< tt) (both .0), leb-true _ _ (unless-zero _ 3 (lit< tt) (both .1)))
-
-  stack-clean : eqb (x .form) 1 ≡ false → eqb (x .form) 2 ≡ true → (x .b ≡ kind .size) × (x .a % kind .alignment ≡ 0)
-  unfolding tableFault
-  stack-clean f g =
-      let both = or-zero _ _ (rw (f, g) at e) in
-      (eqb-true _ _ (unless-zero _ 3 (lit< tt) (both .0)), eqb-true _ 0 (unless-zero _ 4 (lit< tt) (both .1)))
-
-  -- Its place is right, its registers are free, and its stack bytes begin at p or behind.
-  step-right : HeadRead h → ShapeRead h (kind .size) (kind .alignment) → (x .form ≡ 1 → x .a + x .b ≤ h .registers) → (x .form ≡ 2 → x .a < h .modulus)
-      → (p : ℕ) → Right h kind (tablePlace h x p)
-  unfolding Right tableFault
-  step-right head shape registers residue p = elim (either (eqb (x .form) 1)) [
-    | inl f ↦ rw f ((λ r has. omega (arith, registers (eqb-true _ 1 f))), registers-clean f .1)
-    | inr f ↦ elim (either (eqb (x .form) 2)) [
-      | inl g ↦
-          let (size, multiple) = stack-clean f g in
-          let whole = divides (kind .alignment) (h .modulus) (shape .alignment) (head .modulus) (shape .within) in
-          rw (f, g) (size, offset-residue (kind .alignment) (h .modulus) (x .a) p (residue (eqb-true _ 2 g)) whole ∙ multiple)
-      | inr g ↦ absurd (omega (arith, rw (f, g) at e))
-    ]
+-- A step without a fault: its place is right, its registers are free, and its stack bytes begin at p or after it.
+module _ (h : Head) (shape : Shape) (x : Transition) (given : List Bool) (e : tableFault h shape x given ≡ 0) where
+  step-right : HeadRead h → ShapeRead h shape → (x .form ≡ 1 → x .a + x .b ≤ h .registers) → (x .form ≡ 2 → x .a < h .modulus)
+      → (p : ℕ) → Right h shape (tablePlace h x p)
+  unfolding Right
+  step-right head read registers residue p = elim (step-cases h x) [
+    | inl r ↦ rw (r .place p) ((λ q has. omega (arith, registers (r .form))), registers-clean h shape x given e r .1)
+    | inr (inl r) ↦
+        let (size, multiple) = stack-clean h shape x given e r in
+        let whole = divides (shape .alignment) (h .modulus) (read .alignment) (head .modulus) (read .within) in
+        rw (r .place p) (size, offset-residue (shape .alignment) (h .modulus) (x .a) p (residue (r .form)) whole ∙ multiple)
+    | inr (inr r) ↦ absurd (omega (arith, e, r .fault shape given))
   ]
 
   step-free : (p : ℕ) → FreeIn given (tablePlace h x p)
-  step-free p = elim (either (eqb (x .form) 1)) [
-    | inl f ↦ rw f (registers-clean f .0)
-    | inr f ↦ elim (either (eqb (x .form) 2)) [ inl g ↦ rw (f, g) tt | inr g ↦ rw (f, g) tt ]
+  step-free p = elim (step-cases h x) [
+    | inl r ↦ rw (r .place p) (registers-clean h shape x given e r .0)
+    | inr (inl r) ↦ rw (r .place p) tt
+    | inr (inr r) ↦ rw (r .place p) tt
   ]
 
 step-from : (h : Head) (x : Transition) (p : Offset) → FromP p (tablePlace h x (p .0))
-step-from h x p = elim (either (eqb (x .form) 1)) [
-  | inl f ↦ rw f tt
-  | inr f ↦ elim (either (eqb (x .form) 2)) [ inl g ↦ rw (f, g) (least-ge (h .modulus) (x .a) (p .0)) | inr g ↦ rw (f, g) tt ]
-]
-
-step-ends : (h : Head) (x : Transition) (p : ℕ) → (x .form ≡ 1 → x .a + x .b ≤ 16) → runEnd (tablePlace h x p) ≤ 16
-step-ends h x p within = elim (either (eqb (x .form) 1)) [
-  | inl f ↦ rw f (within (eqb-true _ 1 f))
-  | inr f ↦ elim (either (eqb (x .form) 2)) [ inl g ↦ rw (f, g) (omega arith) | inr g ↦ rw (f, g) (omega arith) ]
+step-from h x p = elim (step-cases h x) [
+  | inl r ↦ rw (r .place (p .0)) tt
+  | inr (inl r) ↦ rw (r .place (p .0)) (least-ge (h .modulus) (x .a) (p .0))
+  | inr (inr r) ↦ rw (r .place (p .0)) tt
 ]
 
 -- What holds of every state of the walk: its state is one of the table's, and there is a flag for each of the sixteen registers.
@@ -128,8 +105,8 @@ module _ (limit : ℕ) (table : Table) (t : List ℕ) (read : TableRead limit ta
         (transition-registers (table .head) (table .states) (here s k) (right s k good below))
         (transition-residue (table .head) (table .states) (here s k) (right s k good below)) (s .p .0)
 
-    here-reach : byTable table t .after s k .p .0 ≤ s .p .0 + 79
-    here-reach = reach (table .head) (tableKind table k) (here s k) s (read .head) (read .kind k below .size) e
+    here-reach : byTable table t .after s k .p .0 ≤ s .p .0 + stepMost
+    here-reach = reach (table .head) (tableKind table k) (here s k) s (read .head) (read .kind k below) e
 
   each-right : (s : ByTable) (ks : List ℕ) → Walking table s → KindsBelow (table .head .kinds) ks → faultFrom (byTable table t) s ks ≡ 0
       → (i : ℕ) → i < length ks → Right (table .head) (tableKind table (getD ks i 0)) (getD (placesFrom (byTable table t) s ks) i Nowhere)
@@ -141,7 +118,7 @@ module _ (limit : ℕ) (table : Table) (t : List ℕ) (read : TableRead limit ta
       each-right _ ks (step-walking s k good (below .0)) (below .1) (both .1) i (le-of-suc-le-suc h)
 
   p-low : (s : ByTable) (ks : List ℕ) → Walking table s → KindsBelow (table .head .kinds) ks → faultFrom (byTable table t) s ks ≡ 0
-      → stateFrom (byTable table t) s ks .p .0 ≤ s .p .0 + 79 * length ks
+      → stateFrom (byTable table t) s ks .p .0 ≤ s .p .0 + stepMost * length ks
   unfolding KindsBelow faultFrom stateFrom
   p-low s [] good below e = omega arith
   p-low s (k ∷ ks) good below e =
@@ -168,7 +145,7 @@ module _ (limit : ℕ) (table : Table) (t : List ℕ) (read : TableRead limit ta
         (byTable table t .begin) ks begin-walking below e
 
     -- The final p.
-    pub table-final : stateFrom (byTable table t) (byTable table t .begin) ks .p .0 ≤ 79 * length ks
+    pub table-final : stateFrom (byTable table t) (byTable table t .begin) ks .p .0 ≤ stepMost * length ks
     table-final = omega (arith, p-low (byTable table t .begin) ks begin-walking below e)
 
 -- So of a list that a call has placed: the p that is answered is at most 31,600, which its four bytes hold.

@@ -13,8 +13,7 @@ use Rattle.convention.specs.Lists.{recordOf}
 use Rattle.convention.specs.Bytes.{written}
 use Rattle.convention.specs.Tables.{tableKind, transition}
 use Rattle.convention.specs.Walked.{byTable}
-use Rattle.convention.proofs.Lists.{known, turn-free, record-length}
-use Rattle.convention.proofs.Bytes.{length-written}
+use Rattle.convention.proofs.Lists.{known, turn-free}
 use Rattle.table.specs.Asked.{InTable}
 use Rattle.places.specs.Walks.{WalkIs, recordsBefore}
 use Rattle.places.proofs.Walks.{walk-begin, walk-on, walk-hit, walk-end, write-begin, write-on, write-end}
@@ -31,8 +30,8 @@ module _ (table : Table) (t ks : List ℕ) (asks : WalkAsks table t ks) where
     next-asks : ArgumentAsks table t s (getD ks i 0)
     next-asks = record {
       read = asks .read;
-      inside = record { state = standing .state; kind = known (table .head .kinds) ks (asks .known) i h };
-      reach = omega (arith, standing .reach, asks .few);
+      inside = record { state = standing .state; kind = known (table .head .kinds) ks (asks .listed .known) i h };
+      reach = omega (arith, standing .reach, asks .listed .short);
     }
 
     pub next-inside : InTable table (s .state) (getD ks i 0)
@@ -74,15 +73,12 @@ module _ (table : Table) (t ks : List ℕ) (asks : WalkAsks table t ks) where
 module _ (table : Table) (t ks before : List ℕ) (asks : WriteAsks table t ks before) where
   pub writing-begin : (s : ByTable) → s ≡ walkBegin → Writing table t ks before s 0 before
   writing-begin s e = rw e
-      (record { standing = standing-begin table t ks (asks .walk) walkBegin refl; writes = write-begin (byTable table t) ks before; long = refl })
+      (record { standing = standing-begin table t ks (asks .walk) walkBegin refl; writes = write-begin (byTable table t) ks before })
 
   module _ (s : ByTable) (i : ℕ) (out : List ℕ) (writing : Writing table t ks before s i out) where
     module _ (h : i < length ks) where
       pub writing-asks : ArgumentAsks table t s (getD ks i 0)
       writing-asks = next-asks table t ks (asks .walk) s i (writing .standing) h
-
-      pub writing-room : 6 * i + 6 ≤ length out
-      writing-room = omega (arith, writing .long, asks .room)
 
       pub writing-on : (place : Placement) (next : ByTable) (after : List ℕ) → ArgumentIs table t s (getD ks i 0) place next
           → after ≡ written out (6 * i) (recordOf place) → Writing table t ks before next (i + 1) after
@@ -90,8 +86,7 @@ module _ (table : Table) (t ks before : List ℕ) (asks : WriteAsks table t ks b
           let none = turn-free (byTable table t) s ks i h (writing .standing .walk .fault ∙ asks .free) in
           record {
             standing = on table t ks (asks .walk) s i (writing .standing) h next none (argument .after);
-            writes = write-on (byTable table t) ks before out after s next place i (writing .writes) h (argument .placed) ea (argument .after);
-            long = rw ea (length-written out (6 * i) (recordOf place) (rw record-length writing-room)) ∙ writing .long;
+            writes = write-on (byTable table t) ks before out s i (writing .writes) h (asks .room) after next place (argument .placed) ea (argument .after);
           }
 
     pub writing-end : length ks ≤ i → out ≡ recordsBefore (byTable table t) ks before

@@ -7,25 +7,25 @@ use mathlib.Core.Bool.{Bool, true, false, true≢false}
 use mathlib.Core.List.{List, [], _∷_}
 use native.Mathlib.Decide.{decLe, decLt}
 use native.Mathlib.Omega.{arith}
-use lib.Dec.{eqb}
 use lib.ListN.{length, getD}
-use borrow.Author.Tests.{le-leb, eq-eqb, eqb-true}
+use borrow.Author.Tests.{eq-eqb}
 use Rattle.convention.specs.declared.Table.{Table}
-use Rattle.convention.specs.declared.TableKind.{TableKind}
+use Rattle.convention.specs.declared.Shape.{Shape}
 use Rattle.convention.specs.declared.Transition.{Transition}
 use Rattle.convention.specs.declared.ByTable.{ByTable}
 use Rattle.convention.specs.declared.Placement.{Placement}
 use Rattle.convention.specs.declared.Placement.the-variants.{Registers, Stack, Nowhere}
 use Rattle.convention.specs.Tables.{tableKind, tableOf, transition}
 use Rattle.convention.specs.Rules.{freeRun, placeTaken}
-use Rattle.convention.specs.Lists.{faultFrom, placesFrom}
-use Rattle.convention.specs.Walked.{tableFault, tableAfter, byTable}
-use Rattle.convention.specs.Judged.{KindsBelow, listFault}
+use Rattle.convention.specs.Lists.{faultFrom, placesFrom, KindsBelow}
+use Rattle.convention.specs.Walked.{tableAfter, byTable}
+use Rattle.convention.specs.Judged.{listFault}
 use Rattle.convention.specs.WellPlaced.{HasRegister, Share, Right, WellPlaced}
 use Rattle.convention.specs.Promised.{TableRead}
 use Rattle.convention.proofs.Numbers.{or-on, unless-true}
 use Rattle.convention.proofs.Offsets.{offset-residue, divides}
 use Rattle.convention.proofs.Tables.{transition-residue}
+use Rattle.convention.proofs.Walked.{step-cases}
 use Rattle.convention.proofs.Runs.{either, none-taken, free-some, mark-out}
 use Rattle.walking.proofs.Given.{Walking, begin-walking, step-walking, table-right, table-apart}
 
@@ -48,28 +48,26 @@ module _ (limit : ℕ) (table : Table) (t : List ℕ) (read : TableRead limit ta
     abbrev x : Transition
     x = transition table t (s .state) k
 
-    abbrev kind : TableKind
+    abbrev kind : Shape
     kind = tableKind table k
 
     right-faultless : Right (table .head) kind (byTable table t .place s k)
         → ((r : ℕ) → HasRegister (byTable table t .place s k) r → getD (s .given) r false ≡ true → ⊥) → byTable table t .fault s k ≡ 0
-    unfolding Right tableFault
-    right-faultless fit free = elim (either (eqb (x .form) 1)) [
-      | inl f ↦ elim (either (freeRun (s .given) (x .a) (x .b))) [
-        | inl o ↦ rw f (or-on _ _ (unless-true _ 2 o) ∙ unless-true _ 3 (le-leb _ _ ((rw f at fit) .1)))
-        | inr o ↦ let (r, l, u, given) = free-some (s .given) (x .a) (x .b) o in absurd ((rw f at free) r (l, u) given)
-      ]
-      | inr f ↦ elim (either (eqb (x .form) 2)) [
-        | inl g ↦
-            let (size, multiple) = rw (f, g) at fit in
-            let shape = read .kind k below in
-            let whole = divides (kind .alignment) (table .head .modulus) (shape .alignment) (read .head .modulus) (shape .within) in
-            let within = read .transition (s .state) k (good .known) below in
-            let residue = transition-residue (table .head) (table .states) x within (eqb-true _ 2 g) in
-            let stored = offset-residue (kind .alignment) (table .head .modulus) (x .a) (s .p .0) residue whole in
-            rw (f, g) (or-on _ _ (unless-true _ 3 (eq-eqb _ _ size)) ∙ unless-true _ 4 (eq-eqb _ 0 (sym stored ∙ multiple)))
-        | inr g ↦ absurd (rw (f, g) at fit)
-      ]
+    unfolding Right
+    right-faultless fit free = elim (step-cases (table .head) x) [
+      | inl r ↦ rw (r .fault kind (s .given)) (elim (either (freeRun (s .given) (x .a) (x .b))) [
+        | inl o ↦ or-on _ _ (unless-true _ 2 o) ∙ unless-true _ 3 ((rw (r .place (s .p .0)) at fit) .1)
+        | inr o ↦ let (q, l, u, given) = free-some (s .given) (x .a) (x .b) o in absurd ((rw (r .place (s .p .0)) at free) q (l, u) given)
+      ])
+      | inr (inl r) ↦
+          let (size, multiple) = rw (r .place (s .p .0)) at fit in
+          let shape = read .kind k below in
+          let whole = divides (kind .alignment) (table .head .modulus) (shape .alignment) (read .head .modulus) (shape .within) in
+          let within = read .transition (s .state) k (good .known) below in
+          let residue = transition-residue (table .head) (table .states) x within (r .form) in
+          let stored = offset-residue (kind .alignment) (table .head .modulus) (x .a) (s .p .0) residue whole in
+          rw (r .fault kind (s .given)) (or-on _ _ (unless-true _ 3 (eq-eqb _ _ size)) ∙ unless-true _ 4 (eq-eqb _ 0 (sym stored ∙ multiple)))
+      | inr (inr r) ↦ absurd (rw (r .place (s .p .0)) at fit)
     ]
 
   -- From a state in which the given registers belong to the places of earlier arguments, a list whose places are right and share nothing with those, nor with one

@@ -6,59 +6,51 @@ use convention::Placement;
 use convention::Placing;
 use convention::Reading;
 use convention::Reg;
+use convention::Shape;
 use convention::Table;
-use convention::TableKind;
 use convention::Transition;
+use fields::shapes;
 use places::Walk;
 ghost use mathlib.Core.Path.{_≡_};
-ghost use Prim.Native.Nat.{_<_};
+ghost use Prim.Native.Nat.{_+_, _≤_, _<_};
 ghost use lib.ListN.{length};
 ghost use Rattle.convention.specs.Numbers.{stateLimit, argumentLimit};
 ghost use Rattle.convention.specs.Promised.{TableRead};
+ghost use Rattle.convention.specs.Lists.{faultFrom};
 ghost use Rattle.convention.specs.Walked.{registersFault, stackFault, tableFault, tablePlace, byTable, placeByTable, tableMemory};
 ghost use Rattle.places.specs.Walks.{WalkIs, PlacingIs, recordsBefore};
-ghost use Rattle.walking.specs.Asked.{RunWithin, FaultAsks, PlaceAsks, StepIs, ArgumentAsks, CheckAsks, CheckIs, ArgumentIs, WalkAsks, WriteAsks, walkBegin};
+ghost use Rattle.walking.specs.Asked.{FaultAsks, PlaceAsks, StepIs, ArgumentAsks, CheckAsks, CheckIs, ArgumentIs, KnownAsks, WalkAsks, WriteAsks, walkBegin, givenAfter};
 
 // Faults 2 and 3 of a step that gives registers.
-fn registers_fault(head: Head, kind: TableKind, x: Transition, given: [bool; 16]) -> u8
-    requires { ⌜ RunWithin x ⌝ }
-    ensures { λ r. ⌜ r ≡ registersFault head kind x given ⌝ }
+fn registers_fault(head: Head, shape: Shape, x: Transition, given: [bool; 16]) -> u8
+    requires { ⌜ x .a + x .b ≤ 16 ⌝ }
+    ensures { λ r. ⌜ r ≡ registersFault head shape x given ⌝ }
 {
-    if places::free_run(given, Reg(x.a), x.b) {
-        if (x.b as u16) * (head.width as u16) < kind.size as u16 {
-            3
-        } else {
-            0
-        }
-    } else {
-        2
-    }
+    let free = fields::unless(places::free_run(given, Reg(x.a), x.b), 2);
+    let right = fields::unless(shapes::right_count(head.width, x.b, shape), 3);
+    fields::or_else(free, right)
 }
 
 // Faults 3 and 4 of a step on the stack.
-fn stack_fault(kind: TableKind, x: Transition) -> u8
-    requires { ⌜ 0 < kind .alignment ⌝ }
-    ensures { λ r. ⌜ r ≡ stackFault kind x ⌝ }
+fn stack_fault(shape: Shape, x: Transition) -> u8
+    requires { ⌜ 0 < shape .alignment ⌝ }
+    ensures { λ r. ⌜ r ≡ stackFault shape x ⌝ }
 {
-    if x.b != kind.size {
-        return 3;
-    }
-    if x.a % kind.alignment != 0 {
-        return 4;
-    }
-    0
+    let right = fields::unless(x.b == shapes::stack_bytes(shape), 3);
+    let aligned = fields::unless(x.a % shape.alignment == 0, 4);
+    fields::or_else(right, aligned)
 }
 
 // A step's fault, the first that applies; 0 where none does.
-pub fn step_fault(head: Head, kind: TableKind, x: Transition, given: [bool; 16]) -> u8
-    requires { ⌜ FaultAsks kind x ⌝ }
-    ensures { λ r. ⌜ r ≡ tableFault head kind x given ⌝ }
+pub fn step_fault(head: Head, shape: Shape, x: Transition, given: [bool; 16]) -> u8
+    requires { ⌜ FaultAsks shape x ⌝ }
+    ensures { λ r. ⌜ r ≡ tableFault head shape x given ⌝ }
 {
     if x.form == 1 {
-        return registers_fault(head, kind, x, given);
+        return registers_fault(head, shape, x, given);
     }
     if x.form == 2 {
-        return stack_fault(kind, x);
+        return stack_fault(shape, x);
     }
     1
 }
@@ -120,12 +112,12 @@ pub struct Checked {
 }
 
 // Looks at one argument of a kind, by its transition.
-fn check(head: Head, kind: TableKind, x: Transition, s: ByTable) -> Checked
-    requires { ⌜ CheckAsks head kind x s ⌝ }
-    ensures { λ r. ⌜ CheckIs head kind x s (r .fault) (r .next) ⌝ }
+fn check(head: Head, shape: Shape, x: Transition, s: ByTable) -> Checked
+    requires { ⌜ CheckAsks head shape x s ⌝ }
+    ensures { λ r. ⌜ CheckIs head shape x s (r .fault) (r .next) ⌝ }
 {
     let given = s.given;
-    let fault = step_fault(head, kind, x, given);
+    let fault = step_fault(head, shape, x, given);
     if fault != 0 {
         return Checked { fault, next: s };
     }
@@ -146,7 +138,7 @@ fn argument(table: Table, t: &[u8], s: ByTable, k: u8) -> Stepped
 
 // Goes through a list of known kinds up to its first faulty step. The kind is taken here and not in a function of its own,
 // which would copy the table's kinds for each argument.
-pub fn walk(table: Table, t: &[u8], list: &[u8]) -> Walk
+fn walk(table: Table, t: &[u8], list: &[u8]) -> Walk
     requires { ⌜ WalkAsks table (now t) (now list) ⌝ }
     ensures { λ r. ⌜ WalkIs (byTable table (now (t .entry))) (now (list .entry)) (r .fault) (r .stop) (r .p) ⌝ }
 {
@@ -156,8 +148,8 @@ pub fn walk(table: Table, t: &[u8], list: &[u8]) -> Walk
     while i < list.len() {
         let k = list[i];
         let x = table::transition_of(table, t, s.state, k);
-        let kind = table.kinds[k as usize];
-        let checked = check(head, kind, x, s);
+        let shape = table.kinds[k as usize];
+        let checked = check(head, shape, x, s);
         if checked.fault != 0 {
             return Walk {
                 fault: checked.fault,
@@ -176,6 +168,43 @@ pub fn walk(table: Table, t: &[u8], list: &[u8]) -> Walk
     }
 }
 
+// The registers that are given once a step was taken: those of its run too, where its form is 1.
+fn give(x: Transition, given: [bool; 16]) -> [bool; 16]
+    requires { ⌜ (x .form ≡ 1 → x .a + x .b ≤ 16) ⌝ }
+    ensures { λ r. ⌜ r ≡ givenAfter x given ⌝ }
+{
+    if x.form == 1 {
+        return places::mark_run(given, Reg(x.a), x.b);
+    }
+    given
+}
+
+// The fault of a list of known kinds, of any length: that of its first faulty step, 0 where no step is faulty. No fault depends
+// on p, so the state and the given registers are enough.
+pub fn list_fault(table: Table, t: &[u8], list: &[u8]) -> u8
+    requires { ⌜ KnownAsks table (now t) (now list) ⌝ }
+    ensures { λ r. ⌜ r ≡ faultFrom (byTable table (now (t .entry))) walkBegin (now (list .entry)) ⌝ }
+{
+    let head = table.head;
+    let mut state: u16 = 0;
+    let mut given = [false; 16];
+    let mut i = 0;
+    while i < list.len() {
+        let k = list[i];
+        let x = table::transition_of(table, t, state, k);
+        let kind = table.kinds[k as usize];
+        let fault = step_fault(head, kind, x, given);
+        if fault != 0 {
+            return fault;
+        }
+        let more = give(x, given);
+        given = more;
+        state = x.next;
+        i += 1;
+    }
+    0
+}
+
 // Writes the records of a list of known kinds that has no faulty step.
 fn write_list(table: Table, t: &[u8], list: &[u8], out: &mut [u8])
     requires { ⌜ WriteAsks table (now t) (now list) (now out) ⌝ }
@@ -192,28 +221,22 @@ fn write_list(table: Table, t: &[u8], list: &[u8], out: &mut [u8])
     }
 }
 
-// Places a list by a table that was read, in 01's order of refusals: 8, 12, 9, 10.
+// Places a list by a table that was read, in 01's order of refusals: 8, 12, 9, 10. Its records are written only where no step
+// is faulty.
 fn place_list(table: Table, t: &[u8], list: &[u8], out: &mut [u8]) -> Placing
     requires { ⌜ TableRead stateLimit table (now t) ⌝ }
     ensures { λ r. ⌜ PlacingIs argumentLimit (table .head .kinds) (byTable table (now (t .entry))) (now (list .entry)) (now (out .entry)) r (now (out .exit)) ⌝ }
 {
-    let n = list.len();
-    let number = places::list_no(n, out.len());
-    if number != 0 {
-        return Placing::Refused(number);
-    }
-    let head = table.head;
-    let at = places::unknown_at(head.kinds, list);
-    if at < n {
-        return Placing::Unknown(at);
+    let tested = places::test_list(table.head.kinds, list, out.len());
+    if tested.number != 0 {
+        return places::refusal_answer(tested);
     }
     let walked = walk(table, t, list);
-    if walked.fault != 0 {
-        return Placing::Faulty(walked.stop, walked.fault);
+    let answer = places::walk_answer(walked, list.len());
+    if walked.fault == 0 {
+        write_list(table, t, list, out);
     }
-    write_list(table, t, list, out);
-    let p = walked.p;
-    Placing::Placed(n, p)
+    answer
 }
 
 // Places a list of kinds by a table: the records in the first bytes of `out`, or a refusal that writes nothing.

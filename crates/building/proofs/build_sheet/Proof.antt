@@ -12,6 +12,12 @@ slice-aggregate-explore c = search needs
 explore-requires : tie.Need-explore-requires
 explore-requires c κs = search needs
 
+built-version-requires : tie.Need-built-version-requires
+built-version-requires c κs = search needs
+
+cast-row-at : tie.Need-cast-row-at
+cast-row-at c = search needs
+
 row-at-requires : tie.Need-row-at-requires
 row-at-requires c κs = search needs
 
@@ -46,6 +52,8 @@ build-sheet-spec =
     (tie.spec
     slice-aggregate-explore
     explore-requires
+    built-version-requires
+    cast-row-at
     row-at-requires
     build-no-requires
     build-answer-requires

@@ -7,8 +7,8 @@ use Rattle.building.proofs.pass.Tie as tie
 lead-requires : tie.Need-lead-requires
 lead-requires c κs = search needs
 
-is-place-requires : tie.Need-is-place-requires
-is-place-requires c κs = search needs
+place-fault-requires : tie.Need-place-fault-requires
+place-fault-requires c κs = search needs
 
 meet-requires : tie.Need-meet-requires
 meet-requires c κs = search needs
@@ -25,4 +25,4 @@ returns-2 c = search (passes-nowhere, needs)
 pub pass-spec : {M : Type 1} → statement M
 pass-spec =
     tie.close
-    (tie.spec lead-requires is-place-requires meet-requires same-length returns returns-2)
+    (tie.spec lead-requires place-fault-requires meet-requires same-length returns returns-2)

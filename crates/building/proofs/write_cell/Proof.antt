@@ -1,6 +1,6 @@
 -- `write_cell`: where the next state is found is its number.
 use Rattle.building.proofs.Leading.{modulus-some}
-use Rattle.building.proofs.Writing.{cell-written}
+use Rattle.building.proofs.Writing.{next-few, cell-written}
 use borrow.Author.Needs.{needs}
 use Rattle.building.proofs.write_cell.Statement.{statement}
 use Rattle.building.proofs.write_cell.Tie as tie
@@ -11,14 +11,14 @@ lead-requires c κs = search needs
 find-requires : tie.Need-find-requires
 find-requires c κs = search needs
 
-residue-of-requires : tie.Need-residue-of-requires
-residue-of-requires c κs = search (modulus-some, needs)
+cast-make-transition : tie.Need-cast-make-transition
+cast-make-transition c = search needs
 
-cast-write-transition : tie.Need-cast-write-transition
-cast-write-transition c = search needs
+make-transition-requires : tie.Need-make-transition-requires
+make-transition-requires c κs = search (modulus-some, needs)
 
 write-transition-requires : tie.Need-write-transition-requires
-write-transition-requires c κs = search needs
+write-transition-requires c κs = (search (next-few, needs), search needs)
 
 same-length : tie.Need-same-length
 same-length c = search needs
@@ -32,8 +32,8 @@ write-cell-spec =
     (tie.spec
     lead-requires
     find-requires
-    residue-of-requires
-    cast-write-transition
+    cast-make-transition
+    make-transition-requires
     write-transition-requires
     same-length
     returns)

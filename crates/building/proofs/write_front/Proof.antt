@@ -1,8 +1,15 @@
--- `write_front`: the opening, the kinds and N, one behind the other.
-use Rattle.building.proofs.Writing.{store-keeps, front-written}
+-- `write_front`: the opening, the kinds and N, one after the other.
+use mathlib.Core.Path.{refl}
+use Rattle.building.proofs.Writing.{states-room, front-written}
 use borrow.Author.Needs.{needs}
 use Rattle.building.proofs.write_front.Statement.{statement}
 use Rattle.building.proofs.write_front.Tie as tie
+
+built-version-requires : tie.Need-built-version-requires
+built-version-requires c κs = search needs
+
+cast-n : tie.Need-cast-n
+cast-n c = search needs
 
 row-at-requires : tie.Need-row-at-requires
 row-at-requires c κs = search needs
@@ -16,39 +23,29 @@ write-opening-requires c κs = search needs
 write-kinds-requires : tie.Need-write-kinds-requires
 write-kinds-requires c κs = search needs
 
-cast-out : tie.Need-cast-out
-cast-out c = search needs
+states-at-requires : tie.Need-states-at-requires
+states-at-requires c κs = search needs
 
-cast-out-2 : tie.Need-cast-out-2
-cast-out-2 c = search needs
-
-mul-out : tie.Need-mul-out
-mul-out c = search needs
-
-add-out : tie.Need-add-out
-add-out c = search needs
-
-slice-write-out : tie.Need-slice-write-out
-slice-write-out c = search needs
+write-state-requires : tie.Need-write-state-requires
+write-state-requires c κs = (c .before .before .before .before .before .before .before .before .before .before .before .before .before .before .pre .room, states-room _ _ _ _ _ _ _ _ _ (c .before .before .before .before .before .before .before .before .before .before .before .before .before .before .pre) (c .before .before .before .before .before .before .before .before .before .before .before .before .built-version .ensures) refl (c .before .before .before .before .before .before .before .before .before .before .row-at .ensures .0) (c .before .before .before .before .before .before .before .before .write-opening .ensures) (c .before .before .before .before .write-kinds .ensures) (c .states-at .ensures .0))
 
 same-length : tie.Need-same-length
-same-length c = search (store-keeps, needs)
+same-length c = search needs
 
 returns : tie.Need-returns
-returns c = search (front-written, needs)
+returns c = front-written _ _ _ _ _ _ _ _ _ (c .before .before .before .before .before .before .before .before .before .before .before .before .before .before .before .before .before .pre) (c .before .before .before .before .before .before .before .before .before .before .before .before .before .before .before .built-version .ensures) refl (c .before .before .before .before .before .before .before .before .before .before .before .before .before .row-at .ensures .0) (c .before .before .before .before .before .before .before .before .before .before .before .write-opening .ensures) (c .before .before .before .before .before .before .before .write-kinds .ensures) (c .before .before .before .states-at .ensures .0) _ (c .before .before .write-state .ensures)
 
 pub write-front-spec : {M : Type 1} → statement M
 write-front-spec =
     tie.close
     (tie.spec
+    built-version-requires
+    cast-n
     row-at-requires
     sub-write-opening
     write-opening-requires
     write-kinds-requires
-    cast-out
-    cast-out-2
-    mul-out
-    add-out
-    slice-write-out
+    states-at-requires
+    write-state-requires
     same-length
     returns)

@@ -1,19 +1,21 @@
--- `write_kinds`: before kind k the sizes and alignments of the kinds below k are written.
+-- `write_kinds`: before kind k the shapes of the kinds below k are written.
 use Prim.Native.Nat.{_-_}
-use native.Mathlib.Omega.{arith}
-use lib.ListN.{length-set}
+use Rattle.convention.specs.Layout.{kindsAt}
 use Rattle.convention.specs.Built.{builtKind}
 use Rattle.building.specs.Writing.{BlocksLeft}
-use Rattle.building.proofs.Writing.{blocks-begin, kind-on, blocks-end}
+use Rattle.building.proofs.Writing.{blocks-begin, kind-room, kind-on, blocks-end}
 use borrow.Author.Needs.{needs}
 use Rattle.building.proofs.write_kinds.Statement.{statement}
 use Rattle.building.proofs.write_kinds.Tie as tie
 
 abbrev Inv-loop : tie.InvT-loop
-Inv-loop out₀ sheet kinds k₀ out k = BlocksLeft (builtKind sheet) 7 k kinds out₀ out
+Inv-loop out₀ sheet version kinds k₀ out k = BlocksLeft (builtKind sheet) kindsAt k kinds out₀ out
 
 abbrev μ-loop : tie.MeasureT-loop
-μ-loop out₀ sheet kinds k₀ out k = kinds - k
+μ-loop out₀ sheet version kinds k₀ out k = kinds - k
+
+built-version-requires : tie.Need-built-version-requires Inv-loop μ-loop
+built-version-requires c κs = search needs
 
 loop-holds : tie.Need-loop-holds Inv-loop μ-loop
 loop-holds c = search (blocks-begin, needs)
@@ -27,23 +29,11 @@ mul-kind c = search needs
 element-copy-out-kind : tie.Need-element-copy-out-kind Inv-loop μ-loop
 element-copy-out-kind c = search needs
 
-cast-at : tie.Need-cast-at Inv-loop μ-loop
-cast-at c = search needs
+table-kind-at-requires : tie.Need-table-kind-at-requires Inv-loop μ-loop
+table-kind-at-requires c κs = search needs
 
-mul-at : tie.Need-mul-at Inv-loop μ-loop
-mul-at c = search needs
-
-add-at : tie.Need-add-at Inv-loop μ-loop
-add-at c = search needs
-
-slice-write-out : tie.Need-slice-write-out Inv-loop μ-loop
-slice-write-out c = search needs
-
-add-out : tie.Need-add-out Inv-loop μ-loop
-add-out c = search needs
-
-slice-write-out-2 : tie.Need-slice-write-out-2 Inv-loop μ-loop
-slice-write-out-2 c = simp length-set (omega arith)
+write-shape-requires : tie.Need-write-shape-requires Inv-loop μ-loop
+write-shape-requires c κs = search (kind-room, needs)
 
 add-k : tie.Need-add-k Inv-loop μ-loop
 add-k c = search needs
@@ -66,16 +56,13 @@ write-kinds-spec =
     (tie.spec
     Inv-loop
     μ-loop
+    built-version-requires
     loop-holds
     cast-kind
     mul-kind
     element-copy-out-kind
-    cast-at
-    mul-at
-    add-at
-    slice-write-out
-    add-out
-    slice-write-out-2
+    table-kind-at-requires
+    write-shape-requires
     add-k
     loop-less
     loop-again

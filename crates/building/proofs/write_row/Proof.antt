@@ -1,7 +1,8 @@
 -- `write_row`: before kind k the transitions of the kinds below k are written.
 use Prim.Native.Nat.{_-_}
 use Rattle.convention.specs.Numbers.{stateLimit}
-use Rattle.convention.specs.Built.{builtTransition, builtStates}
+use Rattle.convention.specs.Layout.{rowAt}
+use Rattle.convention.specs.Built.{builtVersion, builtCell, builtStates}
 use Rattle.building.specs.Writing.{BlocksLeft}
 use Rattle.building.proofs.Writing.{blocks-begin, cell-asks, cell-on, row-end}
 use borrow.Author.Needs.{needs}
@@ -9,16 +10,16 @@ use Rattle.building.proofs.write_row.Statement.{statement}
 use Rattle.building.proofs.write_row.Tie as tie
 
 abbrev Inv-loop : tie.InvT-loop
-Inv-loop states count i out₀ sheet from head kinds at k₀ out k = BlocksLeft (builtTransition sheet (builtStates stateLimit sheet) from) at k kinds out₀ out
+Inv-loop states count i out₀ sheet from version head kinds k₀ out k = BlocksLeft (builtCell sheet (builtStates stateLimit sheet) from) (rowAt (builtVersion sheet) (sheet .head) i) k kinds out₀ out
 
 abbrev μ-loop : tie.MeasureT-loop
-μ-loop states count i out₀ sheet from head kinds at k₀ out k = kinds - k
+μ-loop states count i out₀ sheet from version head kinds k₀ out k = kinds - k
 
 state-at-requires : tie.Need-state-at-requires Inv-loop μ-loop
 state-at-requires c κs = search needs
 
-row-at-requires : tie.Need-row-at-requires Inv-loop μ-loop
-row-at-requires c κs = search needs
+built-version-requires : tie.Need-built-version-requires Inv-loop μ-loop
+built-version-requires c κs = search needs
 
 loop-holds : tie.Need-loop-holds Inv-loop μ-loop
 loop-holds c = search (blocks-begin, needs)
@@ -32,14 +33,11 @@ mul-kind c = search needs
 element-copy-out-kind : tie.Need-element-copy-out-kind Inv-loop μ-loop
 element-copy-out-kind c = search needs
 
-cast-write-cell : tie.Need-cast-write-cell Inv-loop μ-loop
-cast-write-cell c = search needs
+cast-transition-at : tie.Need-cast-transition-at Inv-loop μ-loop
+cast-transition-at c = search needs
 
-mul-write-cell : tie.Need-mul-write-cell Inv-loop μ-loop
-mul-write-cell c = search needs
-
-add-write-cell : tie.Need-add-write-cell Inv-loop μ-loop
-add-write-cell c = search needs
+transition-at-requires : tie.Need-transition-at-requires Inv-loop μ-loop
+transition-at-requires c κs = search needs
 
 write-cell-requires : tie.Need-write-cell-requires Inv-loop μ-loop
 write-cell-requires c κs = search (cell-asks, needs)
@@ -66,14 +64,13 @@ write-row-spec =
     Inv-loop
     μ-loop
     state-at-requires
-    row-at-requires
+    built-version-requires
     loop-holds
     cast-kind
     mul-kind
     element-copy-out-kind
-    cast-write-cell
-    mul-write-cell
-    add-write-cell
+    cast-transition-at
+    transition-at-requires
     write-cell-requires
     add-k
     loop-less

@@ -1,58 +1,52 @@
--- `write_transition`: in each arm the fields written are those of the transition in that case.
-use Rattle.building.proofs.Writing.{known-written}
+-- `write_transition`: three stores and the next state's number are the bytes of the transition.
+use native.Mathlib.Omega.{arith}
+use lib.ListN.{length-set}
+use Rattle.building.proofs.Writing.{stored-transition, next-room, stores-keep}
 use borrow.Author.Needs.{needs}
 use Rattle.building.proofs.write_transition.Statement.{statement}
 use Rattle.building.proofs.write_transition.Tie as tie
 
-enum-known-place : tie.Need-enum-known-place
-enum-known-place c = search needs
+add-out : tie.Need-add-out
+add-out c = search needs
 
-write-fields-requires : tie.Need-write-fields-requires
-write-fields-requires c κs = search needs
+slice-write-out : tie.Need-slice-write-out
+slice-write-out c = search needs
 
-enum-known-place-2 : tie.Need-enum-known-place-2
-enum-known-place-2 c = search needs
+add-out-2 : tie.Need-add-out-2
+add-out-2 c = search needs
 
-write-fields-requires-2 : tie.Need-write-fields-requires-2
-write-fields-requires-2 c κs = search needs
+slice-write-out-2 : tie.Need-slice-write-out-2
+slice-write-out-2 c = simp length-set (omega (arith, c .before .pre .1))
 
-enum-told : tie.Need-enum-told
-enum-told c = search needs
+add-out-3 : tie.Need-add-out-3
+add-out-3 c = search needs
 
-write-fields-requires-3 : tie.Need-write-fields-requires-3
-write-fields-requires-3 c κs = search needs
+slice-write-out-3 : tie.Need-slice-write-out-3
+slice-write-out-3 c = simp length-set (omega (arith, c .before .pre .1))
+
+add-write-state : tie.Need-add-write-state
+add-write-state c = search needs
+
+write-state-requires : tie.Need-write-state-requires
+write-state-requires c κs = (c .before .before .pre .0, search (next-room, needs))
 
 same-length : tie.Need-same-length
-same-length c = search needs
+same-length c = search (stores-keep, needs)
 
 returns : tie.Need-returns
-returns c = search (known-written, needs)
-
-same-length-2 : tie.Need-same-length-2
-same-length-2 c = search needs
-
-returns-2 : tie.Need-returns-2
-returns-2 c = search (known-written, needs)
-
-same-length-3 : tie.Need-same-length-3
-same-length-3 c = search needs
-
-returns-3 : tie.Need-returns-3
-returns-3 c = search (known-written, needs)
+returns c = search (stored-transition, needs)
 
 pub write-transition-spec : {M : Type 1} → statement M
 write-transition-spec =
     tie.close
     (tie.spec
-    enum-known-place
-    write-fields-requires
-    enum-known-place-2
-    write-fields-requires-2
-    enum-told
-    write-fields-requires-3
+    add-out
+    slice-write-out
+    add-out-2
+    slice-write-out-2
+    add-out-3
+    slice-write-out-3
+    add-write-state
+    write-state-requires
     same-length
-    returns
-    same-length-2
-    returns-2
-    same-length-3
-    returns-3)
+    returns)

@@ -1,4 +1,5 @@
 -- `answer`: no table needs more room than there is, one that was built can be judged, and each answer is the text that the program prints.
+use Rattle.convention.specs.Layout.{shapeLength, stateLength}
 use borrow.Author.Needs.{needs}
 use Rattle.judge_sheet.proofs.Builds.{table-within, table-long, table-asks}
 use Rattle.judge_sheet.proofs.Answers.{refused-room, prints-long, prints-refused, prints-built}
@@ -45,12 +46,14 @@ same-length-2 : tie.Need-same-length-2
 same-length-2 c = search needs
 
 returns-2 : tie.Need-returns-2
+unfolding shapeLength stateLength
 returns-2 c = search (prints-built, needs)
 
 same-length-3 : tie.Need-same-length-3
 same-length-3 c = search needs
 
 returns-3 : tie.Need-returns-3
+unfolding shapeLength stateLength
 returns-3 c = search (prints-refused, needs)
 
 pub answer-spec : {M : Type 1} → statement M

@@ -1,5 +1,5 @@
 -- `first_list`: what is found where nothing is watched is the least while no register is.
-use Rattle.judging.proofs.Finding.{first-keeps, best-first}
+use Rattle.judging.proofs.Best.{first-keeps, best-first}
 use borrow.Author.Needs.{needs}
 use Rattle.judging.proofs.first_list.Statement.{statement}
 use Rattle.judging.proofs.first_list.Tie as tie
@@ -10,8 +10,8 @@ cast-nodes c = search needs
 mul-nodes : tie.Need-mul-nodes
 mul-nodes c = search needs
 
-find-requires : tie.Need-find-requires
-find-requires c κs = search needs
+find-list-requires : tie.Need-find-list-requires
+find-list-requires c κs = search needs
 
 keep-requires : tie.Need-keep-requires
 keep-requires c κs = search (first-keeps, needs)
@@ -24,4 +24,4 @@ returns c = search (best-first, needs)
 
 pub first-list-spec : {M : Type 1} → statement M
 first-list-spec =
-    tie.close (tie.spec cast-nodes mul-nodes find-requires keep-requires same-length returns)
+    tie.close (tie.spec cast-nodes mul-nodes find-list-requires keep-requires same-length returns)

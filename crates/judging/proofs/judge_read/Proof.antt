@@ -1,4 +1,4 @@
--- `judge_read`: the least list decides, and its walk tells its fault.
+-- `judge_read`: the least list decides, and its first faulty step tells its fault.
 use Rattle.judging.proofs.Answers.{judge-finds, judge-clean, judge-counts, judge-walks, judge-fault}
 use borrow.Author.Needs.{needs}
 use Rattle.judging.proofs.judge_read.Statement.{statement}
@@ -37,14 +37,14 @@ part-copy-end c = search needs
 copy-requires : tie.Need-copy-requires
 copy-requires c κs = search needs
 
-slice-reshare-prefix-walk : tie.Need-slice-reshare-prefix-walk
-slice-reshare-prefix-walk c = search needs
+slice-reshare-prefix-list-fault : tie.Need-slice-reshare-prefix-list-fault
+slice-reshare-prefix-list-fault c = search needs
 
-slice-aggregate-walk : tie.Need-slice-aggregate-walk
-slice-aggregate-walk c = search (judge-counts, needs)
+slice-aggregate-list-fault : tie.Need-slice-aggregate-list-fault
+slice-aggregate-list-fault c = search (judge-counts, needs)
 
-walk-requires : tie.Need-walk-requires
-walk-requires c κs = search (judge-walks, needs)
+list-fault-requires : tie.Need-list-fault-requires
+list-fault-requires c κs = search (judge-walks, needs)
 
 same-length-2 : tie.Need-same-length-2
 same-length-2 c = search needs
@@ -70,9 +70,9 @@ judge-read-spec =
     part-copy-start
     part-copy-end
     copy-requires
-    slice-reshare-prefix-walk
-    slice-aggregate-walk
-    walk-requires
+    slice-reshare-prefix-list-fault
+    slice-aggregate-list-fault
+    list-fault-requires
     same-length-2
     same-length-3
     returns-2)

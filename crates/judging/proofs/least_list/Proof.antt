@@ -2,7 +2,7 @@
 use Prim.Native.Nat.{_-_, _≤_}
 use mathlib.Core.Path.{_≡_}
 use lib.ListN.{length}
-use Rattle.judging.proofs.Finding.{best-finds, best-lists, best-turn, best-end}
+use Rattle.judging.proofs.Best.{best-finds, best-lists, best-turn, best-end}
 use Rattle.judging.specs.Found.{BestIs}
 use borrow.Author.Needs.{needs}
 use Rattle.judging.proofs.least_list.Statement.{statement}
@@ -26,8 +26,8 @@ first-list-requires c κs = search needs
 loop-holds : tie.Need-loop-holds Inv-loop μ-loop
 loop-holds c = search needs
 
-find-requires : tie.Need-find-requires Inv-loop μ-loop
-find-requires c κs = search (best-finds, needs)
+find-list-requires : tie.Need-find-list-requires Inv-loop μ-loop
+find-list-requires c κs = search (best-finds, needs)
 
 better-requires : tie.Need-better-requires Inv-loop μ-loop
 better-requires c κs = search (best-lists, needs)
@@ -57,7 +57,7 @@ least-list-spec =
     mul-nodes
     first-list-requires
     loop-holds
-    find-requires
+    find-list-requires
     better-requires
     add-i
     loop-less

@@ -1,6 +1,6 @@
 -- `list_no`: the two tests in 01's order.
 use borrow.Author.Needs.{needs}
-use Rattle.places.proofs.Walks.{list-no}
+use Rattle.places.proofs.Calls.{list-no}
 use Rattle.places.proofs.list_no.Statement.{statement}
 use Rattle.places.proofs.list_no.Tie as tie
 

@@ -1,62 +1,84 @@
--- `places::write_record` meets its contract: in each arm the fields written are those of the record in that case.
+-- `places::write_record` meets its contract: six stores one after the other are the six bytes of what the placement is made of.
+use native.Mathlib.Omega.{arith}
+use lib.ListN.{length-set}
+use Rattle.places.proofs.Records.{record-stored}
 use borrow.Author.Needs.{needs}
-use Rattle.places.proofs.Records.{known-written}
 use Rattle.places.proofs.write_record.Statement.{statement}
 use Rattle.places.proofs.write_record.Tie as tie
 
-enum-known-place : tie.Need-enum-known-place
-enum-known-place c = search needs
+spell-requires : tie.Need-spell-requires
+spell-requires c κs = search needs
 
-cast-write-fields : tie.Need-cast-write-fields
-cast-write-fields c = search needs
+slice-write-out : tie.Need-slice-write-out
+slice-write-out c = search needs
 
-write-fields-requires : tie.Need-write-fields-requires
-write-fields-requires c κs = search needs
+cast-out : tie.Need-cast-out
+cast-out c = search needs
 
-enum-known-place-2 : tie.Need-enum-known-place-2
-enum-known-place-2 c = search needs
+add-out : tie.Need-add-out
+add-out c = search needs
 
-write-fields-requires-2 : tie.Need-write-fields-requires-2
-write-fields-requires-2 c κs = search needs
+slice-write-out-2 : tie.Need-slice-write-out-2
+slice-write-out-2 c = simp length-set (omega arith)
 
-enum-told : tie.Need-enum-told
-enum-told c = search needs
+cast-out-2 : tie.Need-cast-out-2
+cast-out-2 c = search needs
 
-write-fields-requires-3 : tie.Need-write-fields-requires-3
-write-fields-requires-3 c κs = search needs
+add-out-2 : tie.Need-add-out-2
+add-out-2 c = search needs
+
+slice-write-out-3 : tie.Need-slice-write-out-3
+slice-write-out-3 c = simp length-set (omega arith)
+
+cast-out-3 : tie.Need-cast-out-3
+cast-out-3 c = search needs
+
+add-out-3 : tie.Need-add-out-3
+add-out-3 c = search needs
+
+slice-write-out-4 : tie.Need-slice-write-out-4
+slice-write-out-4 c = simp length-set (omega arith)
+
+cast-out-4 : tie.Need-cast-out-4
+cast-out-4 c = search needs
+
+add-out-4 : tie.Need-add-out-4
+add-out-4 c = search needs
+
+slice-write-out-5 : tie.Need-slice-write-out-5
+slice-write-out-5 c = simp length-set (omega arith)
+
+add-out-5 : tie.Need-add-out-5
+add-out-5 c = search needs
+
+slice-write-out-6 : tie.Need-slice-write-out-6
+slice-write-out-6 c = simp length-set (omega arith)
 
 same-length : tie.Need-same-length
 same-length c = search needs
 
 returns : tie.Need-returns
-returns c = search (known-written, needs)
-
-same-length-2 : tie.Need-same-length-2
-same-length-2 c = search needs
-
-returns-2 : tie.Need-returns-2
-returns-2 c = search (known-written, needs)
-
-same-length-3 : tie.Need-same-length-3
-same-length-3 c = search needs
-
-returns-3 : tie.Need-returns-3
-returns-3 c = search (known-written, needs)
+returns c = search (record-stored, needs)
 
 pub write-record-spec : {M : Type 1} → statement M
 write-record-spec =
     tie.close
     (tie.spec
-    enum-known-place
-    cast-write-fields
-    write-fields-requires
-    enum-known-place-2
-    write-fields-requires-2
-    enum-told
-    write-fields-requires-3
+    spell-requires
+    slice-write-out
+    cast-out
+    add-out
+    slice-write-out-2
+    cast-out-2
+    add-out-2
+    slice-write-out-3
+    cast-out-3
+    add-out-3
+    slice-write-out-4
+    cast-out-4
+    add-out-4
+    slice-write-out-5
+    add-out-5
+    slice-write-out-6
     same-length
-    returns
-    same-length-2
-    returns-2
-    same-length-3
-    returns-3)
+    returns)

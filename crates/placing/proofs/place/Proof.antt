@@ -16,6 +16,9 @@ returns c = search (place-registers, needs)
 least-offset-requires : tie.Need-least-offset-requires
 least-offset-requires c κs = (search (aligned, needs), search (offset-room, needs))
 
+stack-bytes-requires : tie.Need-stack-bytes-requires
+stack-bytes-requires c κs = search needs
+
 returns-2 : tie.Need-returns-2
 returns-2 c = search (place-stack, needs)
 
@@ -30,5 +33,6 @@ place-spec =
     registers-needed-requires
     returns
     least-offset-requires
+    stack-bytes-requires
     returns-2
     returns-3)

@@ -1,32 +1,47 @@
--- `place_list`: each refusal in 01's order; behind them the list is what `place_known` asks for.
-use Rattle.placing.proofs.Calls.{room-asks}
-use Rattle.places.proofs.Walks.{list-refused, unknown-kind}
+-- `place_list`: a failed test, a faulty walk, or the records; one law for each.
+use Rattle.placing.proofs.Calls.{list-asks, room-asks}
+use Rattle.places.proofs.Calls.{list-refused, list-faulty, list-placed}
 use borrow.Author.Needs.{needs}
 use Rattle.placing.proofs.place_list.Statement.{statement}
 use Rattle.placing.proofs.place_list.Tie as tie
 
-list-no-requires : tie.Need-list-no-requires
-list-no-requires c κs = search needs
+test-list-requires : tie.Need-test-list-requires
+test-list-requires c κs = search needs
+
+refusal-answer-requires : tie.Need-refusal-answer-requires
+refusal-answer-requires c κs = search needs
 
 returns : tie.Need-returns
 returns c = search (list-refused, needs)
 
-unknown-at-requires : tie.Need-unknown-at-requires
-unknown-at-requires c κs = search needs
+walk-requires : tie.Need-walk-requires
+walk-requires c κs = search (list-asks, needs)
 
-returns-2 : tie.Need-returns-2
-returns-2 c = search (unknown-kind, needs)
+walk-answer-requires : tie.Need-walk-answer-requires
+walk-answer-requires c κs = search needs
 
-place-known-requires : tie.Need-place-known-requires
-place-known-requires c κs = search (room-asks, needs)
+write-list-requires : tie.Need-write-list-requires
+write-list-requires c κs = search (room-asks, needs)
 
 same-length : tie.Need-same-length
 same-length c = search needs
 
+returns-2 : tie.Need-returns-2
+returns-2 c = search (list-placed, needs)
+
 returns-3 : tie.Need-returns-3
-returns-3 c = search needs
+returns-3 c = search (list-faulty, needs)
 
 pub place-list-spec : {M : Type 1} → statement M
 place-list-spec =
     tie.close
-    (tie.spec list-no-requires returns unknown-at-requires returns-2 place-known-requires same-length returns-3)
+    (tie.spec
+    test-list-requires
+    refusal-answer-requires
+    returns
+    walk-requires
+    walk-answer-requires
+    write-list-requires
+    same-length
+    returns-2
+    returns-3)

@@ -35,8 +35,8 @@ element-copy-out-kind c = search (kind-there, needs)
 step-requires : tie.Need-step-requires Inv-loop μ-loop
 step-requires c κs = search (next-asks, needs)
 
-fault-of-requires : tie.Need-fault-of-requires Inv-loop μ-loop
-fault-of-requires c κs = search needs
+place-fault-requires : tie.Need-place-fault-requires Inv-loop μ-loop
+place-fault-requires c κs = search needs
 
 returns : tie.Need-returns Inv-loop μ-loop
 returns c = search (standing-hit, needs)
@@ -66,7 +66,7 @@ walk-spec =
     mul-kind
     element-copy-out-kind
     step-requires
-    fault-of-requires
+    place-fault-requires
     returns
     add-i
     loop-less

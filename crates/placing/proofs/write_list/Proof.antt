@@ -1,5 +1,6 @@
 -- `write_list`: at each argument, the records that are there and those of what is left give the whole.
 use Rattle.placing.proofs.Lists.{writing-begin, kind-there, next-asks, writing-on, writing-end}
+use Rattle.places.proofs.Walks.{write-room}
 use Rattle.placing.specs.Asked.{Writing}
 use lib.ListN.{length}
 use Prim.Native.Nat.{_-_}
@@ -39,7 +40,7 @@ mul-write-record : tie.Need-mul-write-record Inv-loop μ-loop
 mul-write-record c = search needs
 
 write-record-requires : tie.Need-write-record-requires Inv-loop μ-loop
-write-record-requires c κs = search needs
+write-record-requires c κs = search (write-room, needs)
 
 add-done : tie.Need-add-done Inv-loop μ-loop
 add-done c = search needs

@@ -9,10 +9,10 @@ use Rattle.sheet.proofs.kind_at.Statement.{statement}
 use Rattle.sheet.proofs.kind_at.Tie as tie
 
 abbrev Inv-loop : tie.InvT-loop
-Inv-loop s k at₀ passed₀ at passed = (at ≡ sheetKindAt s passed) × (passed ≤ k)
+Inv-loop version s k at₀ passed₀ at passed = (at ≡ sheetKindAt version s passed) × (passed ≤ k)
 
 abbrev μ-loop : tie.MeasureT-loop
-μ-loop s k at₀ passed₀ at passed = k - passed
+μ-loop version s k at₀ passed₀ at passed = k - passed
 
 loop-holds : tie.Need-loop-holds Inv-loop μ-loop
 loop-holds c = (search (kind-begins, needs), search needs)
@@ -30,7 +30,7 @@ kind-length-requires : tie.Need-kind-length-requires Inv-loop μ-loop
 kind-length-requires c κs = search needs
 
 add-at : tie.Need-add-at Inv-loop μ-loop
-add-at c = omega (arith, at-within _ _ _ _ (c .before .before .before .loop .inv .0) (c .before .before .before .before .before .pre) (c .before .before .before .loop .inv .1))
+add-at c = omega (arith, at-within _ _ _ _ _ (c .before .before .before .loop .inv .0) (c .before .before .before .before .before .pre) (c .before .before .before .loop .inv .1))
 
 add-passed : tie.Need-add-passed Inv-loop μ-loop
 add-passed c = search needs

@@ -7,10 +7,10 @@ use Rattle.sheet.proofs.kinds_no.Statement.{statement}
 use Rattle.sheet.proofs.kinds_no.Tie as tie
 
 abbrev Inv-loop : tie.InvT-loop
-Inv-loop head s at₀ left₀ at left = KindsLeft head s at left
+Inv-loop version head s at₀ left₀ at left = KindsLeft version head s at left
 
 abbrev μ-loop : tie.MeasureT-loop
-μ-loop head s at₀ left₀ at left = left
+μ-loop version head s at₀ left₀ at left = left
 
 loop-holds : tie.Need-loop-holds Inv-loop μ-loop
 loop-holds c = record { within = c .before .pre .within; numbers = refl; lengths = refl }

@@ -7,10 +7,10 @@ use Rattle.sheet.proofs.kinds_of.Statement.{statement}
 use Rattle.sheet.proofs.kinds_of.Tie as tie
 
 abbrev Inv-loop : tie.InvT-loop
-Inv-loop head s kinds₀ at₀ i₀ kinds at i = KindsStored head s at i kinds
+Inv-loop version head s kinds₀ at₀ i₀ kinds at i = KindsStored version head s at i kinds
 
 abbrev μ-loop : tie.MeasureT-loop
-μ-loop head s kinds₀ at₀ i₀ kinds at i = head .kinds - i
+μ-loop version head s kinds₀ at₀ i₀ kinds at i = head .kinds - i
 
 blank-kinds-requires : tie.Need-blank-kinds-requires Inv-loop μ-loop
 blank-kinds-requires c κs = search needs

@@ -1,4 +1,4 @@
--- `sheet_no`: the opening's number, or that of the kinds and of what is left over behind them.
+-- `sheet_no`: the opening's number, or that of the kinds and of what is left over after them.
 use Rattle.sheet.proofs.Whole.{opened, number-opening, number-kinds}
 use borrow.Author.Needs.{needs}
 use Rattle.sheet.proofs.sheet_no.Statement.{statement}
@@ -9,6 +9,9 @@ opening-no-requires c κs = search needs
 
 returns : tie.Need-returns
 returns c = search (number-opening, needs)
+
+version-of-requires : tie.Need-version-of-requires
+version-of-requires c κs = search needs
 
 head-of-requires : tie.Need-head-of-requires
 head-of-requires c κs = search needs
@@ -31,6 +34,7 @@ sheet-no-spec =
     (tie.spec
     opening-no-requires
     returns
+    version-of-requires
     head-of-requires
     kinds-no-requires
     left-over-no-requires

@@ -10,10 +10,10 @@ use Rattle.sheet.proofs.starts_no.Statement.{statement}
 use Rattle.sheet.proofs.starts_no.Tie as tie
 
 abbrev Inv-loop : tie.InvT-loop
-Inv-loop registers needed s tries at₀ left₀ at left = (startsNo registers needed s at left ≡ startsNo registers needed s 4 tries) × (at + left ≤ 259)
+Inv-loop registers needed s first tries at₀ left₀ at left = (startsNo registers needed s at left ≡ startsNo registers needed s first tries) × (at + left ≤ 512)
 
 abbrev μ-loop : tie.MeasureT-loop
-μ-loop registers needed s tries at₀ left₀ at left = left
+μ-loop registers needed s first tries at₀ left₀ at left = left
 
 loop-holds : tie.Need-loop-holds Inv-loop μ-loop
 loop-holds c = (refl, omega arith)

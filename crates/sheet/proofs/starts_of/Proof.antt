@@ -1,7 +1,6 @@
 -- `starts_of`: after i turns the first i starts stand in their places, and zeros behind them.
 use Rattle.sheet.proofs.Turns.{start-stored}
 use Rattle.convention.proofs.Filled.{filled, fill-done}
-use Rattle.convention.specs.Sheets.{startsAt}
 use lib.ListN.{drop}
 use native.Mathlib.Omega.{arith}
 use mathlib.Core.Path.{_≡_, refl}
@@ -11,10 +10,10 @@ use Rattle.sheet.proofs.starts_of.Statement.{statement}
 use Rattle.sheet.proofs.starts_of.Tie as tie
 
 abbrev Inv-loop : tie.InvT-loop
-Inv-loop s tries starts₀ i₀ starts i = (starts ≡ filled (drop startsAt s) 16 0 i) × (i ≤ tries)
+Inv-loop s first tries starts₀ i₀ starts i = (starts ≡ filled (drop first s) 16 0 i) × (i ≤ tries)
 
 abbrev μ-loop : tie.MeasureT-loop
-μ-loop s tries starts₀ i₀ starts i = tries - i
+μ-loop s first tries starts₀ i₀ starts i = tries - i
 
 loop-holds : tie.Need-loop-holds Inv-loop μ-loop
 loop-holds c = (refl, omega arith)

@@ -1,7 +1,7 @@
 -- `kinds_no`: the kinds that are left give the number of all, at each turn.
 use Rattle.table.proofs.Runs.{Left, kindsRun, kinds-run, run-turn, run-hit, run-end}
 use Rattle.convention.specs.Tables.{tableKindsNo}
-use Rattle.convention.specs.Fields.{kindsAt}
+use Rattle.convention.specs.Layout.{kindsAt}
 use lib.ListN.{drop}
 use mathlib.Core.Path.{refl}
 use borrow.Author.Needs.{needs}
@@ -9,10 +9,10 @@ use Rattle.table.proofs.kinds_no.Statement.{statement}
 use Rattle.table.proofs.kinds_no.Tie as tie
 
 abbrev Inv-loop : tie.InvT-loop
-Inv-loop head t at₀ left₀ at left = Left t (kindsRun head t) (tableKindsNo head (drop kindsAt t) (head .kinds)) at left
+Inv-loop version head t at₀ left₀ at left = Left t (kindsRun version head t) (tableKindsNo version head (drop kindsAt t) (head .kinds)) at left
 
 abbrev μ-loop : tie.MeasureT-loop
-μ-loop head t at₀ left₀ at left = left
+μ-loop version head t at₀ left₀ at left = left
 
 loop-holds : tie.Need-loop-holds Inv-loop μ-loop
 loop-holds c = record { within = c .before .pre; numbers = refl }
@@ -31,6 +31,9 @@ shape-no-requires c κs = search needs
 
 returns : tie.Need-returns Inv-loop μ-loop
 returns c = search (run-hit, kinds-run, needs)
+
+shape-length-requires : tie.Need-shape-length-requires Inv-loop μ-loop
+shape-length-requires c κs = search needs
 
 add-at : tie.Need-add-at Inv-loop μ-loop
 add-at c = search needs
@@ -59,6 +62,7 @@ kinds-no-spec =
     part-shape-no-end
     shape-no-requires
     returns
+    shape-length-requires
     add-at
     sub-left
     loop-less

@@ -1,8 +1,9 @@
--- `kinds_of`: after i turns the first i kinds stand in their places, and blank ones behind them.
-use Rattle.table.proofs.Stored.{kind-stored, kinds-done}
+-- `kinds_of`: after i turns the first i kinds stand in their places, and blank ones after them.
+use Rattle.table.proofs.Stored.{kind-stored, kinds-done, kind-within}
 use Rattle.convention.proofs.Filled.{filled}
-use Rattle.convention.specs.Tables.{tableKindsOf, blankTableKind}
-use Rattle.convention.specs.Fields.{kindsAt}
+use Rattle.convention.specs.Tables.{tableKindsOf}
+use Rattle.convention.specs.Sheets.{blankShape}
+use Rattle.convention.specs.Layout.{kindsAt}
 use lib.ListN.{drop}
 use mathlib.Core.Path.{_≡_}
 use Prim.Native.Nat.{_≤_, _-_}
@@ -11,10 +12,10 @@ use Rattle.table.proofs.kinds_of.Statement.{statement}
 use Rattle.table.proofs.kinds_of.Tie as tie
 
 abbrev Inv-loop : tie.InvT-loop
-Inv-loop head t kinds₀ i₀ kinds i = (kinds ≡ filled (tableKindsOf (drop kindsAt t) (head .kinds)) 8 blankTableKind i) × (i ≤ head .kinds)
+Inv-loop version head t kinds₀ i₀ kinds i = (kinds ≡ filled (tableKindsOf version (drop kindsAt t) (head .kinds)) 8 blankShape i) × (i ≤ head .kinds)
 
 abbrev μ-loop : tie.MeasureT-loop
-μ-loop head t kinds₀ i₀ kinds i = head .kinds - i
+μ-loop version head t kinds₀ i₀ kinds i = head .kinds - i
 
 blank-kinds-requires : tie.Need-blank-kinds-requires Inv-loop μ-loop
 blank-kinds-requires c κs = search needs
@@ -22,26 +23,20 @@ blank-kinds-requires c κs = search needs
 loop-holds : tie.Need-loop-holds Inv-loop μ-loop
 loop-holds c = search needs
 
-cast-at : tie.Need-cast-at Inv-loop μ-loop
-cast-at c = search needs
+table-kind-at-requires : tie.Need-table-kind-at-requires Inv-loop μ-loop
+table-kind-at-requires c κs = search needs
 
-mul-at : tie.Need-mul-at Inv-loop μ-loop
-mul-at c = search needs
+sub-shape-of : tie.Need-sub-shape-of Inv-loop μ-loop
+sub-shape-of c = search (kind-within, needs)
 
-add-at : tie.Need-add-at Inv-loop μ-loop
-add-at c = search needs
+part-shape-of-start : tie.Need-part-shape-of-start Inv-loop μ-loop
+part-shape-of-start c = search (kind-within, needs)
 
-sub-kind-of : tie.Need-sub-kind-of Inv-loop μ-loop
-sub-kind-of c = search needs
+part-shape-of-end : tie.Need-part-shape-of-end Inv-loop μ-loop
+part-shape-of-end c = search needs
 
-part-kind-of-start : tie.Need-part-kind-of-start Inv-loop μ-loop
-part-kind-of-start c = search needs
-
-part-kind-of-end : tie.Need-part-kind-of-end Inv-loop μ-loop
-part-kind-of-end c = search needs
-
-kind-of-requires : tie.Need-kind-of-requires Inv-loop μ-loop
-kind-of-requires c κs = search needs
+shape-of-requires : tie.Need-shape-of-requires Inv-loop μ-loop
+shape-of-requires c κs = search needs
 
 cast-kinds : tie.Need-cast-kinds Inv-loop μ-loop
 cast-kinds c = search needs
@@ -72,13 +67,11 @@ kinds-of-spec =
     μ-loop
     blank-kinds-requires
     loop-holds
-    cast-at
-    mul-at
-    add-at
-    sub-kind-of
-    part-kind-of-start
-    part-kind-of-end
-    kind-of-requires
+    table-kind-at-requires
+    sub-shape-of
+    part-shape-of-start
+    part-shape-of-end
+    shape-of-requires
     cast-kinds
     mul-kinds
     array-set-from-kinds

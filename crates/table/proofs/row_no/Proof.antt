@@ -10,6 +10,9 @@ table-no-requires c κs = search needs
 returns : tie.Need-returns
 returns c = search (number-table, needs)
 
+version-of-requires : tie.Need-version-of-requires
+version-of-requires c κs = search needs
+
 head-of-requires : tie.Need-head-of-requires
 head-of-requires c κs = search needs
 
@@ -31,6 +34,7 @@ row-no-spec =
     (tie.spec
     table-no-requires
     returns
+    version-of-requires
     head-of-requires
     states-of-requires
     cast-if2

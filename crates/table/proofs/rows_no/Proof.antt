@@ -1,14 +1,11 @@
 -- `rows_no`: the transitions and what is left over, by what each call answers.
-use Rattle.table.proofs.Rows.{count-fits, end-fits}
+use Rattle.table.proofs.Rows.{count-fits}
 use borrow.Author.Needs.{needs}
 use Rattle.table.proofs.rows_no.Statement.{statement}
 use Rattle.table.proofs.rows_no.Tie as tie
 
-states-at-requires : tie.Need-states-at-requires
-states-at-requires c κs = search needs
-
-add-first : tie.Need-add-first
-add-first c = search needs
+rows-at-requires : tie.Need-rows-at-requires
+rows-at-requires c κs = search needs
 
 cast-count : tie.Need-cast-count
 cast-count c = search needs
@@ -20,7 +17,7 @@ transitions-no-requires : tie.Need-transitions-no-requires
 transitions-no-requires c κs = search needs
 
 row-at-requires : tie.Need-row-at-requires
-row-at-requires c κs = search (end-fits, needs)
+row-at-requires c κs = search needs
 
 left-over-no-requires : tie.Need-left-over-no-requires
 left-over-no-requires c κs = search needs
@@ -29,14 +26,13 @@ or-else-requires : tie.Need-or-else-requires
 or-else-requires c κs = search needs
 
 returns : tie.Need-returns
-returns c = rw (c .or-else .ensures, c .before .left-over-no .ensures, c .before .before .row-at .ensures, c .before .before .before .transitions-no .ensures, c .before .before .before .before .before .states-at .ensures)
+returns c = rw (c .or-else .ensures, c .before .left-over-no .ensures, c .before .before .row-at .ensures .0, c .before .before .before .transitions-no .ensures, c .before .before .before .before .before .rows-at .ensures .0)
 
 pub rows-no-spec : {M : Type 1} → statement M
 rows-no-spec =
     tie.close
     (tie.spec
-    states-at-requires
-    add-first
+    rows-at-requires
     cast-count
     mul-count
     transitions-no-requires

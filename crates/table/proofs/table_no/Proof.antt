@@ -10,6 +10,9 @@ opening-no-requires c κs = search needs
 returns : tie.Need-returns
 returns c = search (number-opening, needs)
 
+version-of-requires : tie.Need-version-of-requires
+version-of-requires c κs = search needs
+
 head-of-requires : tie.Need-head-of-requires
 head-of-requires c κs = search needs
 
@@ -40,6 +43,7 @@ table-no-spec =
     (tie.spec
     opening-no-requires
     returns
+    version-of-requires
     head-of-requires
     kinds-no-requires
     returns-2

@@ -1,9 +1,12 @@
--- `table_of`: head, kinds and number of states, by what each call answers.
+-- `table_of`: version, head, kinds and number of states, by what each call answers.
 use Rattle.convention.specs.Tables.{tableOf}
 use Rattle.table.proofs.Whole.{kinds-asked}
 use borrow.Author.Needs.{needs}
 use Rattle.table.proofs.table_of.Statement.{statement}
 use Rattle.table.proofs.table_of.Tie as tie
+
+version-of-requires : tie.Need-version-of-requires
+version-of-requires c κs = search needs
 
 head-of-requires : tie.Need-head-of-requires
 head-of-requires c κs = search needs
@@ -16,7 +19,7 @@ states-of-requires c κs = search needs
 
 returns : tie.Need-returns
 unfolding tableOf
-returns c = rw (c .states-of .ensures, c .before .kinds-of .ensures, c .before .before .head-of .ensures)
+returns c = rw (c .states-of .ensures, c .before .kinds-of .ensures, c .before .before .head-of .ensures, c .before .before .before .version-of .ensures)
 
 pub table-of-spec : {M : Type 1} → statement M
-table-of-spec = tie.close (tie.spec head-of-requires kinds-of-requires states-of-requires returns)
+table-of-spec = tie.close (tie.spec version-of-requires head-of-requires kinds-of-requires states-of-requires returns)

@@ -7,10 +7,10 @@ use Rattle.table.proofs.transitions_no.Statement.{statement}
 use Rattle.table.proofs.transitions_no.Tie as tie
 
 abbrev Inv-loop : tie.InvT-loop
-Inv-loop head states t first count at₀ left₀ at left = Left t (transitionsRun head states t) (transitionsNo head states t first count) at left
+Inv-loop version head states t first count at₀ left₀ at left = Left t (transitionsRun version head states t) (transitionsNo version head states t first count) at left
 
 abbrev μ-loop : tie.MeasureT-loop
-μ-loop head states t first count at₀ left₀ at left = left
+μ-loop version head states t first count at₀ left₀ at left = left
 
 loop-holds : tie.Need-loop-holds Inv-loop μ-loop
 loop-holds c = record { within = c .before .pre; numbers = refl }
@@ -20,6 +20,9 @@ transition-no-requires c κs = search needs
 
 returns : tie.Need-returns Inv-loop μ-loop
 returns c = search (run-hit, transitions-run, needs)
+
+transition-length-requires : tie.Need-transition-length-requires Inv-loop μ-loop
+transition-length-requires c κs = search needs
 
 add-at : tie.Need-add-at Inv-loop μ-loop
 add-at c = search needs
@@ -45,6 +48,7 @@ transitions-no-spec =
     loop-holds
     transition-no-requires
     returns
+    transition-length-requires
     add-at
     sub-left
     loop-less

@@ -1,5 +1,5 @@
 -- `teaselram_row`: an empty part was refused; any other is the row, whose length and start fit.
-use Rattle.teaselram.proofs.Says.{row-empty, part-short, start-fits, row-given}
+use Rattle.teaselram.proofs.Says.{row-empty, state-few, part-short, start-fits, row-given}
 use native.Mathlib.Omega.{arith}
 use borrow.Author.Needs.{needs}
 use Rattle.teaselram.proofs.teaselram_row.Statement.{statement}
@@ -17,17 +17,23 @@ refusal-requires c κs = search needs
 returns : tie.Need-returns
 returns c = search (row-empty, needs)
 
-cast-kinds : tie.Need-cast-kinds
-cast-kinds c = omega (arith, part-short _ _ _ (c .before .row .ensures .bytes) (c .if1 .left))
+version-of-requires : tie.Need-version-of-requires
+version-of-requires c κs = search needs
+
+head-of-requires : tie.Need-head-of-requires
+head-of-requires c κs = search needs
+
+cast-row-at : tie.Need-cast-row-at
+cast-row-at c = omega (arith, state-few _ _ _ (c .before .before .before .row .ensures .bytes) (c .before .before .if1 .left))
 
 row-at-requires : tie.Need-row-at-requires
-row-at-requires c κs = omega (arith, start-fits _ _ _ (c .before .row .ensures .bytes) (c .if1 .left))
-
-cast-t11 : tie.Need-cast-t11
-cast-t11 c = omega (arith, part-short _ _ _ (c .before .before .row .ensures .bytes) (c .before .if1 .left))
+row-at-requires c κs = search needs
 
 cast-t12 : tie.Need-cast-t12
-cast-t12 c = omega (arith, start-fits _ _ _ (c .before .before .row .ensures .bytes) (c .before .if1 .left), c .row-at .ensures)
+cast-t12 c = omega (arith, part-short _ _ _ (c .before .before .before .before .row .ensures .bytes) (c .before .before .before .if1 .left))
+
+cast-t13 : tie.Need-cast-t13
+cast-t13 c = omega (arith, start-fits _ _ _ (c .before .before .before .before .row .ensures .bytes) (c .before .before .before .if1 .left) _ _ (c .before .before .version-of .ensures) (c .before .head-of .ensures), c .row-at .ensures .0)
 
 returns-2 : tie.Need-returns-2
 returns-2 c = search (row-given, needs)
@@ -40,8 +46,10 @@ teaselram-row-spec =
     row-no-requires
     refusal-requires
     returns
-    cast-kinds
+    version-of-requires
+    head-of-requires
+    cast-row-at
     row-at-requires
-    cast-t11
     cast-t12
+    cast-t13
     returns-2)

@@ -28,12 +28,20 @@ mul-asked c = omega (arith, below c)
 array-copy-out-asked : tie.Need-array-copy-out-asked
 array-copy-out-asked c = omega (arith, below c)
 
+version-of-requires : tie.Need-version-of-requires
+version-of-requires c κs = search needs
+
 kind-at-requires : tie.Need-kind-at-requires
 kind-at-requires c κs = search (sheet-kind-there, needs)
 
+starts-at-requires : tie.Need-starts-at-requires
+starts-at-requires c κs = search needs
+
 -- Its first start stands below 65,536.
-fits : (c : tie.After-kind-at) → c .kind-at .result + 4 < 65536
-fits c = rw (c .kind-at .ensures) (first-start-below _ _ _ _ (c .before .before .before .before .before .before .before .read-sheet .ensures) (c .before .before .before .before .asked-no .ensures) (c .before .before .before .if1 .left))
+fits : (c : tie.After-starts-at) → c .before .kind-at .result + c .starts-at .result < 65536
+fits c =
+    first-start-below _ _ _ _ (c .before .before .before .before .before .before .before .before .before .read-sheet .ensures) (c .before .before .before .before .before .before .asked-no .ensures) (c .before .before .before .before .before .if1 .left) _ _ _
+    (c .before .before .version-of .ensures) (c .before .kind-at .ensures) (c .starts-at .ensures .0)
 
 add-first : tie.Need-add-first
 add-first c = omega (arith, fits c)
@@ -57,7 +65,9 @@ teaselram-sheet-kind-spec =
     returns
     mul-asked
     array-copy-out-asked
+    version-of-requires
     kind-at-requires
+    starts-at-requires
     add-first
     cast-first
     kind-says-requires

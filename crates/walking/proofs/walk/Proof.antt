@@ -26,14 +26,14 @@ shared-slice-read-k c = search needs
 transition-of-requires : tie.Need-transition-of-requires Inv-loop μ-loop
 transition-of-requires c κs = (search needs, search (next-inside, needs))
 
-cast-kind : tie.Need-cast-kind Inv-loop μ-loop
-cast-kind c = fits-under _ _ 8 (search (kind-there, needs)) tt
+cast-shape : tie.Need-cast-shape Inv-loop μ-loop
+cast-shape c = fits-under _ _ 8 (search (kind-there, needs)) tt
 
-mul-kind : tie.Need-mul-kind Inv-loop μ-loop
-mul-kind c = scaled-fits _ 8 2 (search (kind-there, needs)) (lit< tt)
+mul-shape : tie.Need-mul-shape Inv-loop μ-loop
+mul-shape c = scaled-fits _ 8 2 (search (kind-there, needs)) (lit< tt)
 
-element-copy-out-kind : tie.Need-element-copy-out-kind Inv-loop μ-loop
-element-copy-out-kind c = search (kind-there, needs)
+element-copy-out-shape : tie.Need-element-copy-out-shape Inv-loop μ-loop
+element-copy-out-shape c = search (kind-there, needs)
 
 check-requires : tie.Need-check-requires Inv-loop μ-loop
 check-requires c κs = search (next-check, needs)
@@ -63,9 +63,9 @@ walk-spec =
     loop-holds
     shared-slice-read-k
     transition-of-requires
-    cast-kind
-    mul-kind
-    element-copy-out-kind
+    cast-shape
+    mul-shape
+    element-copy-out-shape
     check-requires
     returns
     add-i

@@ -1,5 +1,6 @@
 -- `write_list`: the records of the arguments so far stand in front; what is left of the list gives those that are left.
-use Rattle.walking.proofs.Lists.{writing-begin, writing-asks, writing-room, writing-on, writing-end}
+use Rattle.walking.proofs.Lists.{writing-begin, writing-asks, writing-on, writing-end}
+use Rattle.places.proofs.Walks.{write-room}
 use Rattle.walking.specs.Asked.{Writing}
 use lib.ListN.{length}
 use Prim.Native.Nat.{_-_}
@@ -29,7 +30,7 @@ mul-write-record : tie.Need-mul-write-record Inv-loop μ-loop
 mul-write-record c = search needs
 
 write-record-requires : tie.Need-write-record-requires Inv-loop μ-loop
-write-record-requires c κs = search (writing-room, needs)
+write-record-requires c κs = search (write-room, needs)
 
 add-i : tie.Need-add-i Inv-loop μ-loop
 add-i c = search needs

@@ -1,6 +1,6 @@
 -- `search`: before entry i the entries below it were gone through, and none hits.
 use Prim.Native.Nat.{_-_}
-use Rattle.judging.proofs.Searching.{search-begin, search-visits, search-hit, search-turn, search-end}
+use Rattle.judging.proofs.Searching.{search-begin, search-reads, search-through, search-hit, search-turn, search-end}
 use Rattle.judging.specs.Searched.{Searching}
 use borrow.Author.Needs.{needs}
 use Rattle.judging.proofs.search.search.Statement.{statement}
@@ -21,14 +21,11 @@ mul-nodes c = search needs
 loop-holds : tie.Need-loop-holds Inv-loop μ-loop
 loop-holds c = search (search-begin, needs)
 
-add-read-word : tie.Need-add-read-word Inv-loop μ-loop
-add-read-word c = search needs
+entry-node-requires : tie.Need-entry-node-requires Inv-loop μ-loop
+entry-node-requires c κs = search (search-reads, needs)
 
-read-word-requires : tie.Need-read-word-requires Inv-loop μ-loop
-read-word-requires c κs = search needs
-
-visit-requires : tie.Need-visit-requires Inv-loop μ-loop
-visit-requires c κs = search (search-visits, needs)
+go-through-requires : tie.Need-go-through-requires Inv-loop μ-loop
+go-through-requires c κs = search (search-through, needs)
 
 same-length : tie.Need-same-length Inv-loop μ-loop
 same-length c = search needs
@@ -60,9 +57,8 @@ search-spec =
     cast-nodes
     mul-nodes
     loop-holds
-    add-read-word
-    read-word-requires
-    visit-requires
+    entry-node-requires
+    go-through-requires
     same-length
     returns
     add-i

@@ -10,11 +10,11 @@ cast-transition-of c = search needs
 transition-of-requires : tie.Need-transition-of-requires
 transition-of-requires c κs = search needs
 
-mul-kind : tie.Need-mul-kind
-mul-kind c = search needs
+mul-shape : tie.Need-mul-shape
+mul-shape c = search needs
 
-array-copy-out-kind : tie.Need-array-copy-out-kind
-array-copy-out-kind c = search needs
+array-copy-out-shape : tie.Need-array-copy-out-shape
+array-copy-out-shape c = search needs
 
 gives-requires : tie.Need-gives-requires
 gives-requires c κs = search needs
@@ -34,8 +34,8 @@ step-spec =
     (tie.spec
     cast-transition-of
     transition-of-requires
-    mul-kind
-    array-copy-out-kind
+    mul-shape
+    array-copy-out-shape
     gives-requires
     watched-fault-requires
     node-of-requires

@@ -1,0 +1,4 @@
+pub mod Memory
+pub mod Storing
+pub mod Meeting
+pub mod Paths

@@ -1,0 +1,58 @@
+// A kind's shape, which is its size and alignment: reading one, and what it asks of a place, by the rules and by a table alike.
+use convention::Head;
+use convention::Shape;
+ghost use mathlib.Core.Path.{_≡_};
+ghost use Prim.Native.Nat.{_<_};
+ghost use Rattle.convention.specs.Fields.{isAlignment, shapeNo, shapeOf};
+ghost use Rattle.convention.specs.Shapes.{registersNeeded, rightCount, stackBytes};
+use crate::layout::ALIGNMENT_AT;
+use crate::layout::SIZE_AT;
+
+fn is_alignment(head: Head, x: u8) -> bool
+    ensures { λ r. ⌜ r ≡ isAlignment head x ⌝ }
+{
+    crate::is_modulus(x) & (x <= head.modulus)
+}
+
+// Number 5, or 3, for a kind's size and alignment; s begins at the kind's first byte.
+pub fn shape_no(version: u8, head: Head, s: &[u8]) -> u8
+    ensures { λ r. ⌜ r ≡ shapeNo version head (now (s .entry)) ⌝ }
+{
+    let size = crate::byte_at(s, SIZE_AT);
+    let right = crate::field_no(s, SIZE_AT, (1 <= size) & (size <= 64), 5);
+    let aligned = is_alignment(head, crate::byte_at(s, ALIGNMENT_AT));
+    crate::or_else(right, crate::field_no(s, ALIGNMENT_AT, aligned, 5))
+}
+
+// Both, whether they are right or not.
+pub fn shape_of(version: u8, s: &[u8]) -> Shape
+    ensures { λ r. ⌜ r ≡ shapeOf version (now (s .entry)) ⌝ }
+{
+    Shape {
+        size: crate::byte_at(s, SIZE_AT),
+        alignment: crate::byte_at(s, ALIGNMENT_AT),
+    }
+}
+
+// 'A kind needs k registers, size / w rounded up.'
+pub fn registers_needed(width: u8, shape: Shape) -> u8
+    requires { ⌜ 0 < width ⌝ }
+    ensures { λ r. ⌜ r ≡ registersNeeded width shape ⌝ }
+{
+    let bytes = shape.size as u16 + width as u16;
+    ((bytes - 1) / width as u16) as u8
+}
+
+// Whether a count of registers is right: they have room for the size.
+pub fn right_count(width: u8, count: u8, shape: Shape) -> bool
+    ensures { λ r. ⌜ r ≡ rightCount width count shape ⌝ }
+{
+    shape.size as u16 <= count as u16 * width as u16
+}
+
+// How many bytes a kind takes on the stack.
+pub fn stack_bytes(shape: Shape) -> u8
+    ensures { λ r. ⌜ r ≡ stackBytes shape ⌝ }
+{
+    shape.size
+}

@@ -1,0 +1,98 @@
+-- Why the best of the lists found is the least of them: nothing is watched first, and then a register at a time.
+use Prim.Native.Nat.{ℕ, _+_, _-_, _≤_}
+use native.Mathlib.Omega.{arith}
+use mathlib.Core.Path.{_≡_}
+use mathlib.Core.Logic.{inl, inr}
+use mathlib.Core.List.{List}
+use lib.ListN.{length}
+use Rattle.convention.specs.declared.Reg.{Reg}
+use Rattle.convention.specs.declared.Table.{Table}
+use Rattle.convention.specs.Numbers.{stateLimit}
+use Rattle.convention.specs.Promised.{TableRead}
+use Rattle.judging.specs.declared.steps.Watch.the-variants.{Register, Nothing}
+use Rattle.judging.specs.Watched.{nodes}
+use Rattle.judging.specs.Memory.{foundEnd, bestEnd, listAt}
+use Rattle.judging.specs.Listed.{ListsAsk, KeepAsks, kept, Stays, Changes, BetterIs}
+use Rattle.judging.specs.Found.{FindAsks, FindIs, BestIs}
+use Rattle.judging.proofs.Finding.{slice-same, room-stays}
+use Rattle.judging.proofs.Listing.{kept-list}
+use Rattle.judging.proofs.Least.{none-first, least-only, none-on, least-new, least-on, least-kept, least-changed}
+
+-- What is found where nothing is watched can be kept, and is the best before the first register.
+module _ (table : Table) (t before : List ℕ) (asks : FindAsks table t before) (found : ℕ) (mid : List ℕ)
+    (find : FindIs table t Nothing before found mid) (long : length mid ≡ length before) where
+  pub first-keeps : KeepAsks (nodes table) mid found
+  first-keeps = record { room = room-stays (nodes table) before mid (asks .room) long; short = find .short }
+
+  pub best-first : (work : List ℕ) → work ≡ kept (nodes table) mid found → length work ≡ length mid → BestIs table t 0 found work
+  best-first work e long′ = record {
+    none = λ z. none-first table t (find .none z);
+    some = λ p.
+        let (i, k, hit, list) = find .some p in
+        rw (e, kept-list (nodes table) mid found first-keeps, list) (least-only table t i k hit);
+    short = find .short;
+    room = room-stays (nodes table) mid work (first-keeps .room) long′;
+  }
+
+-- The register of a number.
+abbrev register : ℕ → Reg
+register i = record { 0 = i }
+
+-- The best before register i.
+module _ (table : Table) (t : List ℕ) (i best : ℕ) (work : List ℕ) (left : BestIs table t i best work) where
+  -- The register can be watched.
+  pub best-finds : TableRead stateLimit table t → FindAsks table t work
+  best-finds read = record { read = read; room = left .room }
+
+  module _ (found : ℕ) (mid : List ℕ) (find : FindIs table t (Register (register i)) work found mid) (long : length mid ≡ length work) where
+    -- What is found there can be compared with the best.
+    pub best-lists : ListsAsk (nodes table) mid found best
+    best-lists = record { room = room-stays (nodes table) work mid (left .room) long; short = find .short; short-best = left .short }
+
+    same-best : listAt mid (bestEnd (nodes table)) best ≡ listAt work (bestEnd (nodes table)) best
+    same-best =
+        slice-same (foundEnd (nodes table)) (bestEnd (nodes table) - best) (bestEnd (nodes table)) mid work (omega (arith, left .short)) (find .best)
+
+    -- One more register: the best stays, or is what was found.
+    stays : Stays (nodes table) mid found best best mid → BestIs table t (i + 1) best mid
+    stays s = elim (s .why) [
+      | inl z ↦ record {
+        none = λ e. none-on table t (register i) (left .none e) (find .none z);
+        some = λ p. rw same-best (least-on table t (register i) _ (left .some p) (find .none z));
+        short = left .short;
+        room = best-lists .room;
+      }
+      | inr (some, was, after) ↦
+          let (j, k, hit, list) = find .some some in
+          record {
+            none = λ e. absurd (omega arith);
+            some = λ p. rw same-best (least-kept table t (register i) _ (left .some p) j k hit (rw (same-best, list) at after));
+            short = left .short;
+            room = best-lists .room;
+          }
+    ]
+
+    changes : (after : List ℕ) → Changes (nodes table) mid found best found after → length after ≡ length mid → BestIs table t (i + 1) found after
+    changes after s long′ =
+        let (j, k, hit, list) = find .some (s .some) in
+        record {
+          none = λ e. absurd (omega (arith, s .some));
+          some = λ _. rw (s .list, list) (elim (s .why) [
+            | inl z ↦ least-new table t (register i) (left .none z) j k hit
+            | inr (was, before) ↦ least-changed table t (register i) _ (left .some was) j k hit (rw (same-best, list) at before)
+          ]);
+          short = find .short;
+          room = room-stays (nodes table) mid after (best-lists .room) long′;
+        }
+
+    pub best-turn : (n : ℕ) (after : List ℕ) → BetterIs (nodes table) mid found best n after → length after ≡ length mid
+        → BestIs table t (i + 1) n after
+    best-turn n after better long′ = elim (better .choice) [
+      | inl s ↦ rw (s .count, s .memory) (stays (rw (s .count, s .memory) at s))
+      | inr s ↦ rw (s .count) (changes after (rw (s .count) at s) long′)
+    ]
+
+-- After the last register.
+pub best-end : (table : Table) (t : List ℕ) (i best : ℕ) (work : List ℕ) → BestIs table t i best work
+    → i ≤ table .head .registers → table .head .registers ≤ i → BestIs table t (table .head .registers) best work
+best-end table t i best work left h l = let last : i ≡ table .head .registers = omega arith in rw last at left

@@ -1,0 +1,72 @@
+-- `go_through`: before kind k the kinds below it were gone through, and none is faulty.
+use Prim.Native.Nat.{_-_}
+use Rattle.judging.proofs.Searching.{through-begin, through-inside, through-hit, through-meets, through-turn, through-end}
+use Rattle.judging.specs.Searched.{GoingThrough}
+use borrow.Author.Needs.{needs}
+use Rattle.judging.proofs.search.go_through.Statement.{statement}
+use Rattle.judging.proofs.search.go_through.Tie as tie
+
+abbrev Inv-loop : tie.InvT-loop
+Inv-loop table t watch work₀ i node count kinds nodes met₀ k₀ work met k = GoingThrough table t watch i work₀ k met work
+
+abbrev μ-loop : tie.MeasureT-loop
+μ-loop table t watch work₀ i node count kinds nodes met₀ k₀ work met k = kinds - k
+
+cast-nodes : tie.Need-cast-nodes Inv-loop μ-loop
+cast-nodes c = search needs
+
+mul-nodes : tie.Need-mul-nodes Inv-loop μ-loop
+mul-nodes c = search needs
+
+loop-holds : tie.Need-loop-holds Inv-loop μ-loop
+loop-holds c = search (through-begin, needs)
+
+step-requires : tie.Need-step-requires Inv-loop μ-loop
+step-requires c κs = record { read = search needs; inside = search (through-inside, needs); below = search needs }
+
+same-length : tie.Need-same-length Inv-loop μ-loop
+same-length c = search needs
+
+returns : tie.Need-returns Inv-loop μ-loop
+returns c = search (through-hit, needs)
+
+meet-requires : tie.Need-meet-requires Inv-loop μ-loop
+meet-requires c κs = search (through-meets, needs)
+
+count-after-requires : tie.Need-count-after-requires Inv-loop μ-loop
+count-after-requires c κs = search needs
+
+add-k : tie.Need-add-k Inv-loop μ-loop
+add-k c = search needs
+
+loop-less : tie.Need-loop-less Inv-loop μ-loop
+loop-less c = search needs
+
+loop-again : tie.Need-loop-again Inv-loop μ-loop
+loop-again c = search (through-turn, needs)
+
+same-length-2 : tie.Need-same-length-2 Inv-loop μ-loop
+same-length-2 c = search needs
+
+returns-2 : tie.Need-returns-2 Inv-loop μ-loop
+returns-2 c = search (through-end, needs)
+
+pub go-through-spec : {M : Type 1} → statement M
+go-through-spec =
+    tie.close
+    (tie.spec
+    Inv-loop
+    μ-loop
+    cast-nodes
+    mul-nodes
+    loop-holds
+    step-requires
+    same-length
+    returns
+    meet-requires
+    count-after-requires
+    add-k
+    loop-less
+    loop-again
+    same-length-2
+    returns-2)
