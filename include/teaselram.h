@@ -11,7 +11,7 @@
  * - reads nothing but the slices, writes nothing but `out`, keeps nothing, allocates nothing;
  * - answers by value one of the three structs below. `number` is 0 on success and the refusal's number otherwise; every
  *   field that is not named for an answer is 0;
- * - leaves `out` as it was where it refuses, and otherwise the bytes of `out` behind those it writes.
+ * - leaves `out` as it was where it refuses, and otherwise the bytes of `out` after those it writes.
  *
  * In C and C++ a slice of no bytes may have a NULL pointer, as `std::vector<uint8_t>().data()` may be. Pass a pointer
  * to any byte in its place; nothing is read or written there:

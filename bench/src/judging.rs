@@ -18,13 +18,13 @@ fn plain(table: &[u8], out: &mut [u8]) -> Result<Verdict, Refusal> {
 }
 
 /// A clean table that every search goes through whole: a stair of sixteen states gives a register each or passes it by, and
-/// the states behind it, met with the watched register given and without, lead to one another by the stack.
+/// the states after it, met with the watched register given and without, lead to one another by the stack.
 fn clean(states: u8) -> Vec<u8> {
     let row = |state: u8| {
         let transition = |kind: u8| match state.checked_sub(REGISTERS) {
             None if kind == 0 => step(1, state, state + 1),
             None => step(2, 0, state + 1),
-            Some(behind) => step(2, 0, REGISTERS + further(behind, kind, states - REGISTERS)),
+            Some(after) => step(2, 0, REGISTERS + further(after, kind, states - REGISTERS)),
         };
         (0..KINDS).map(transition).collect()
     };
@@ -32,9 +32,9 @@ fn clean(states: u8) -> Vec<u8> {
 }
 
 /// Kind 0 goes on by one, the others by leaps, round and round.
-fn further(behind: u8, kind: u8, count: u8) -> u8 {
+fn further(after: u8, kind: u8, count: u8) -> u8 {
     let leap = 1 + 7 * u16::from(kind);
-    ((u16::from(behind) + leap) % u16::from(count)) as u8
+    ((u16::from(after) + leap) % u16::from(count)) as u8
 }
 
 /// A table whose shortest faulty list goes twice through all its states: only the last gives a register.

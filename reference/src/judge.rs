@@ -24,7 +24,7 @@ struct Node {
 /// From which node and by which kind each node was first met; the first node by none.
 type Met = HashMap<Node, Option<(Node, u8)>>;
 
-/// The list by which `node` was first met, with one more kind behind it.
+/// The list by which `node` was first met, with one more kind after it.
 fn list_through(met: &Met, node: Node, last: u8) -> Vec<u8> {
     let mut list: Vec<u8> = successors(Some((node, last)), |(node, _)| met[node])
         .map(|(_, kind)| kind)

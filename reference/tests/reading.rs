@@ -175,7 +175,7 @@ fn wrong_value_comes_before_a_later_missing_byte() {
 
 #[test]
 fn missing_byte_comes_before_a_later_wrong_value() {
-    // The second kind is cut off, and what would stand behind it is never looked at.
+    // The second kind is cut off, and what would stand after it is never looked at.
     assert_eq!(sheet_number("01 04 04 08 02 08 08 01 00 08"), 3);
     assert_eq!(table_number("01 04 04 08 02 08 08 08"), 3);
 }

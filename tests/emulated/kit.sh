@@ -1,5 +1,5 @@
 # Where the kit keeps what is for this machine, for the scripts beside this one: `kit`; `tools`, with its compiler, its
-# emulator and its x86-64 C library; and `emulate`, the words that run the x86-64 program that is named behind them.
+# emulator and its x86-64 C library; and `emulate`, the words that run the x86-64 program that follows them.
 stop() { echo "$0: $*" >&2; exit 2; }
 rt=$(command -v rt) || stop "rt is not on the path"
 home=${RATTLE_HOME:-$(dirname "$(readlink -f "$rt")")/..}

@@ -3,7 +3,7 @@
  * writes its reply to standard output, until the input ends. It is x86-64 code and runs under the kit's emulator;
  * tests/emulated/build links it with the library and puts it into the archive that sends the requests.
  *
- * The tests cannot see this memory, so what they see elsewhere is held here: a call that touches a byte behind a slice gets
+ * The tests cannot see this memory, so what they see elsewhere is held here: a call that touches a byte after a slice gets
  * a fault from the system, and one that writes before a slice or into its input is found out after it. Either ends the
  * program without a reply.
  */
@@ -25,12 +25,12 @@ _Noreturn void _exit(int status);
 
 enum { PROTECT_ALL = 0, PROTECT_NOTHING = 3, PRIVATE_AND_OF_NO_FILE = 0x22 };
 
-/* What no call may touch: so many bytes behind an area, no less than a page of any machine, and so many before a slice. */
+/* What no call may touch: so many bytes after an area, no less than a page of any machine, and so many before a slice. */
 #define GUARD ((size_t)1 << 16)
 #define MARGIN ((size_t)8)
 #define MARGIN_BYTE 0xA5
 
-/* A slice as a call gets it: the last bytes of an area behind which there is no memory. */
+/* A slice as a call gets it: the last bytes of an area after which there is no memory. */
 struct slice {
     uint8_t *area_end;
     uint8_t *bytes;

@@ -27,7 +27,7 @@ fn known(kind: u64, kinds: usize) -> Result<usize, Refusal> {
     }
 }
 
-/// The kinds that are asked for of a file with so many: each, the two behind them, and numbers that are one of them again
+/// The kinds that are asked for of a file with so many: each, the two after them, and numbers that are one of them again
 /// where a narrower number wraps round.
 pub fn asked(kinds: u8) -> impl Iterator<Item = u64> {
     let far = [255, 1 << 8, 1 << 16, 1 << 32, 1 << 63, u64::MAX];

@@ -14,7 +14,7 @@ fn states(sheet: &Sheet) -> usize {
         .len()
 }
 
-/// The table of a sheet by the library alone, and the room left as the library left it.
+/// The table of a sheet by the library alone, and the room as the library left it.
 fn built(sheet: &[u8]) -> Option<Vec<u8>> {
     let mut table = vec![0; LONGEST_TABLE];
     let built = teaselram::build(sheet, &mut table).ok()?;

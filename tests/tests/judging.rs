@@ -126,7 +126,7 @@ fn a_bad_row_counts_only_where_a_list_reaches_it() {
 }
 
 #[test]
-fn a_row_behind_a_fault_is_not_reached() {
+fn a_row_after_a_fault_is_not_reached() {
     let mut rows = vec![vec![in_registers(0, 0, 1)], vec![in_registers(0, 1, 1)]];
     assert_eq!(judge(&table(1, rows.clone())), fault(3, [0]));
     // The second kind goes round the fault.
@@ -206,7 +206,7 @@ fn lists_as_long_as_2n() {
     }
 }
 
-/// The second visit of an earlier state goes wrong; the states behind it give each a register of its own while there are any.
+/// The second visit of an earlier state goes wrong; the states after it give each a register of its own while there are any.
 #[test]
 fn lists_almost_as_long_as_2n() {
     let mut random = Xorshift::new(32);

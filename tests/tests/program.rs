@@ -80,7 +80,7 @@ fn the_longest_input_and_one_byte_more() {
     assert_eq!(printed(&filled(LONGEST_INPUT + 1)), "refused 1\n");
 }
 
-/// A file as standard input is left where the program stopped reading: behind the byte that is one too many.
+/// A file as standard input is left where the program stopped reading: after the byte that is one too many.
 #[test]
 fn a_megabyte_is_read_no_further() {
     let path = top().join("target/megabyte");

@@ -167,7 +167,7 @@ fn flags_of_a_kind() {
     }
 }
 
-/// Without starts the last kind's first one would stand behind the sheet.
+/// Without starts the last kind's first one would stand after the sheet.
 #[test]
 fn a_kind_without_starts() {
     let sheet = samples::s_with_double(|double| double.starts.clear());

@@ -1,5 +1,5 @@
 //! What the library does, in plain Rust written for speed: sets of registers are bits, nothing is proved, and placing writes
-//! each record as it is found. So a refusal may leave records behind, which the library's may not.
+//! each record as it is found. So a refusal may have written records, which the library's may not.
 
 pub mod build;
 mod fields;

@@ -95,19 +95,19 @@ impl Kind {
     /// Places one argument; where there is no place, nothing changes.
     pub fn place(&self, now: &mut Allocation) -> Option<Place> {
         let runs = &self.runs[..usize::from(self.tries)];
-        let mut left = 0;
+        let mut skipped = 0;
         for (run, &start) in runs.iter().zip(&self.starts) {
             if now.unavailable & run == 0 {
-                now.unavailable |= run | if self.closing { left } else { 0 };
+                now.unavailable |= run | if self.closing { skipped } else { 0 };
                 return Some((REGISTERS, u32::from(start), self.needed));
             }
-            left |= run;
+            skipped |= run;
         }
         if !self.may_use_stack {
             return None;
         }
         if self.closing {
-            now.unavailable |= left;
+            now.unavailable |= skipped;
         }
         // An alignment is a power of two.
         let mask = u32::from(self.alignment) - 1;

@@ -1,14 +1,14 @@
 -- Why a built table places exactly like its sheet: while the rules stand in an allocation state, the table stands in that state's number, with the same p.
 -- From there each kind has the same place, since the residue that is stored leads from p to the rules' offset; and the table finds no fault of its own, since it
 -- has given no register that is available by the rules.
-use Prim.Native.Nat.{ℕ, _*_, _%_, _≤_, _<_}
+use Prim.Native.Nat.{ℕ, _%_, _≤_, _<_}
 use mathlib.Core.Path.{_≡_, refl, ap, _∙_}
 use mathlib.Core.Bool.{Bool, true}
 use mathlib.Core.List.{List}
 use native.Mathlib.Nat.{zero-mod}
 use native.Mathlib.Omega.{arith}
 use lib.ListN.{length, take}
-use borrow.Author.Tests.{le-leb, eq-eqb}
+use borrow.Author.Tests.{eq-eqb}
 use Rattle.convention.specs.declared.Head.{Head}
 use Rattle.convention.specs.declared.Sheet.{Sheet}
 use Rattle.convention.specs.declared.SheetKind.{SheetKind}
@@ -65,7 +65,7 @@ module _ (h : Head) (kind : SheetKind) (s : ByRules) (H : HeadRead h) (K : Sheet
       or-on _ _ (unless-true _ 3 (eq-eqb _ _ (g .1))) ∙ unless-true _ 4 (eq-eqb _ 0 residue)
   made-fault Nowhere next given g within = refl
 
-  -- Where there is none, it goes on in the next state, with the registers of the place given, and from the p behind it.
+  -- Where there is none, it goes on in the next state, with the registers of the place given, and from the p after it.
   made-after : (place : Placement) (next : ℕ) (u : ByTable) → Gives h kind s place → u .p ≡ s .p → placeFault place ≡ 0
       → tableAfter h (made (h .modulus) place next) u ≡ record { state = next; given = placeTaken place (u .given); p = placeP place (s .p) }
   unfolding tableAfter

@@ -99,7 +99,7 @@ module _ (sheet : Sheet) (R : SheetRead sheet) (s : ByRules) (k : ℕ) (b : k < 
       let same = same-fault (sheet .head .width) A (sheetKind sheet k) s divided in
       (λ g. sym same ∙ eqb-true _ 0 g, λ f. eq-eqb _ 0 (same ∙ f))
 
-  -- It leads to the allocation state behind that step.
+  -- It leads to the allocation state after that step.
   pub next-after : allocations sheet .next (allocation A s) k ≡ allocation A (byRules sheet .after s k)
   next-after = same-after (sheet .head .width) A (sheetKind sheet k) s divided
 

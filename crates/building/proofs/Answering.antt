@@ -1,4 +1,4 @@
--- The builder's answer and the lent memory: 11, 12 or the table, behind the number that reading the sheet gave.
+-- The builder's answer and the lent memory: 11, 12 or the table, after the number that reading the sheet gave.
 use Prim.Native.Nat.{ℕ, zero, suc, _≤_, _<_}
 use mathlib.Core.Logic.{inl, inr}
 use mathlib.Core.Path.{_≡_, refl, sym, _∙_}
@@ -12,24 +12,24 @@ use borrow.Author.Tests.{le-leb, lt-leb, leb-true}
 use Rattle.convention.specs.declared.Sheet.{Sheet}
 use Rattle.convention.specs.declared.Reading.{Reading}
 use Rattle.convention.specs.declared.SheetAnswer.{SheetAnswer}
-use Rattle.convention.specs.declared.Building.{Building}
-use Rattle.convention.specs.declared.Building.the-variants.{Built}
+use Rattle.convention.specs.declared.BuildingAnswer.{BuildingAnswer}
+use Rattle.convention.specs.declared.BuildingAnswer.the-variants.{Built}
 use Rattle.convention.specs.Numbers.{stateLimit, orElse, unless, reading}
 use Rattle.convention.specs.Bytes.{written}
 use Rattle.convention.specs.Sheets.{readSheet}
 use Rattle.convention.specs.Layout.{rowAt}
-use Rattle.convention.specs.Built.{builtVersion, builtStates, builtTable, buildNo, buildAnswer, build, buildWrites, buildMemory}
+use Rattle.convention.specs.Built.{builtVersion, builtStates, builtTable, buildNo, builtOrRefused, build, buildWrites, buildMemory}
 use Rattle.convention.specs.Promised.{SheetRead}
 use Rattle.convention.proofs.Runs.{either}
 use Rattle.convention.proofs.Numbers.{or-zero, or-here, unless-zero}
 use Rattle.convention.proofs.Sheets.{sheet-right, sheet-is, sheet-refused, sheet-wrong}
 use Rattle.building.specs.declared.memory.Met.{Met}
-use Rattle.building.specs.Holding.{Holds}
+use Rattle.building.specs.Holding.{MetHolds}
 use Rattle.building.specs.Writing.{TableAsks, tableNumber, BuildingIs}
 use Rattle.building.proofs.Readable.{built-length}
 
 -- A number that is not 0 refuses, and leaves the memory.
-number-answers : (number n len : ℕ) → 0 < number → buildAnswer number n len ≡ Building.Refused number
+number-answers : (number n len : ℕ) → 0 < number → builtOrRefused number n len ≡ BuildingAnswer.Refused number
 number-answers zero n len h = absurd (omega arith)
 number-answers (suc number) n len h = refl
 
@@ -38,16 +38,16 @@ number-leaves zero table out h = absurd (omega arith)
 number-leaves (suc number) table out h = refl
 
 -- What a number answers, told apart as the code does.
-pub answer-refused : (number n len : ℕ) → (number ≡ 0 → ⊥) → Building.Refused number ≡ buildAnswer number n len
-answer-refused number n len nz = sym (number-answers number n len (omega (arith, nz)))
+pub number-refused : (number n len : ℕ) → (number ≡ 0 → ⊥) → BuildingAnswer.Refused number ≡ builtOrRefused number n len
+number-refused number n len nz = sym (number-answers number n len (omega (arith, nz)))
 
-pub answer-built : (number n len : ℕ) → number ≡ 0 → Built n len ≡ buildAnswer number n len
+pub answer-built : (number n len : ℕ) → number ≡ 0 → Built n len ≡ builtOrRefused number n len
 answer-built number n len z = rw z
 
 -- A sheet that was read, whose states were explored: the number is that of 'Building: 11, 12'.
-module _ (sheet : Sheet) (states : List ℕ) (met : Met) (before : List ℕ) (len number : ℕ) (answer : Building)
-    (holds : Holds sheet states met (builtStates stateLimit sheet)) (v : ℕ) (ev : v ≡ builtVersion sheet) (el : len ≡ rowAt v (sheet .head) (met .count))
-    (en : number ≡ orElse (unless (not (met .over)) 11) (unless (leb len (length before)) 12)) (ea : answer ≡ buildAnswer number (met .count) len) where
+module _ (sheet : Sheet) (states : List ℕ) (met : Met) (before : List ℕ) (len number : ℕ) (answer : BuildingAnswer)
+    (holds : MetHolds sheet states met (builtStates stateLimit sheet)) (v : ℕ) (ev : v ≡ builtVersion sheet) (el : len ≡ rowAt v (sheet .head) (met .count))
+    (en : number ≡ orElse (unless (not (met .over)) 11) (unless (leb len (length before)) 12)) (ea : answer ≡ builtOrRefused number (met .count) len) where
   -- Where there are not too many states, the length is the table's.
   module _ (o : met .over ≡ false) where
     few : length (builtStates stateLimit sheet) ≤ stateLimit
@@ -63,8 +63,8 @@ module _ (sheet : Sheet) (states : List ℕ) (met : Met) (before : List ℕ) (le
   ]
 
   -- It refuses.
-  pub table-refused : (number ≡ 0 → ⊥) → BuildingIs sheet before answer before
-  table-refused nz =
+  pub build-refused : (number ≡ 0 → ⊥) → BuildingIs sheet before answer before
+  build-refused nz =
       let some : 0 < number = omega (arith, nz) in
       record {
         answers = ea ∙ number-answers number _ _ some ∙ rw (← table-number) (sym (number-answers number _ _ some));
@@ -96,7 +96,7 @@ module _ (sheet : Sheet) (states : List ℕ) (met : Met) (before : List ℕ) (le
 -- The reader's answer.
 module _ (s : List ℕ) (a : SheetAnswer) (ea : a ≡ readSheet s) where
   -- It read the sheet: the answer is that of building its table.
-  module _ (e : a .reading ≡ Reading.Read) (out : List ℕ) (r : Building) (after : List ℕ) (is : BuildingIs (a .sheet) out r after) where
+  module _ (e : a .reading ≡ Reading.Read) (out : List ℕ) (r : BuildingAnswer) (after : List ℕ) (is : BuildingIs (a .sheet) out r after) where
     pub built-answer : r ≡ build stateLimit s (length out)
     unfolding build buildNo
     built-answer = rw (sheet-right s a ea e, ← sheet-is s a ea e) (is .answers)
@@ -111,7 +111,7 @@ module _ (s : List ℕ) (a : SheetAnswer) (ea : a ≡ readSheet s) where
     unfolding buildNo
     here = rw (sheet-refused s a ea n e) (or-here n _ (sheet-wrong s a ea n e))
 
-    pub refused-answer : Building.Refused n ≡ build stateLimit s (length out)
+    pub refused-answer : BuildingAnswer.Refused n ≡ build stateLimit s (length out)
     unfolding build
     refused-answer = rw here (sym (number-answers n _ _ (sheet-wrong s a ea n e)))
 

@@ -6,11 +6,11 @@ use native.Mathlib.Omega.{arith}
 use lib.ListN.{length, take, drop, length-append}
 use lib.Seq.{take-at, drop-at}
 use borrow.Author.Tests.{leb-true}
-use Rattle.convention.specs.declared.Building.the-variants.{Built}
+use Rattle.convention.specs.declared.BuildingAnswer.the-variants.{Built}
 use Rattle.convention.specs.Layout.{LengthSaid}
 use Rattle.convention.specs.Sheets.{sheetNo, sheetOf}
 use Rattle.convention.specs.Tables.{tableNo}
-use Rattle.convention.specs.Built.{builtVersion, builtMost, builtStates, builtTable, statesNumber, buildNo, buildAnswer, build, buildMemory}
+use Rattle.convention.specs.Built.{builtVersion, builtMost, builtStates, builtTable, statesNumber, buildNo, builtOrRefused, build, buildMemory}
 use Rattle.convention.proofs.Numbers.{or-zero, unless-zero}
 use Rattle.convention.proofs.Positions.{table-most}
 use Rattle.convention.proofs.Sheets.{sheet-read}
@@ -32,7 +32,7 @@ module _ (limit : ℕ) (s : List ℕ) (room n len : ℕ) (built : build limit s 
   table = builtTable limit (sheetOf s)
 
   -- Nothing was refused, and the answer is the number of states and the table's length.
-  answer : (number : ℕ) → buildAnswer number (length (builtStates limit (sheetOf s))) (length table) ≡ Built n len
+  answer : (number : ℕ) → builtOrRefused number (length (builtStates limit (sheetOf s))) (length table) ≡ Built n len
       → (number ≡ 0) × (n ≡ length (builtStates limit (sheetOf s))) × (len ≡ length table)
   answer zero e = (refl, cc, cc)
   answer (suc number) e = absurd (let z : _≡_ {A = ℕ} 0 1 = cc in omega arith)
@@ -66,8 +66,8 @@ module _ (limit : ℕ) (s out : List ℕ) (n len : ℕ) (built : build limit s (
       rw there
       (omega (arith, length-append (builtTable limit (sheetOf s)) (drop (length (builtTable limit (sheetOf s))) out), built-says limit s (length out) n len built .2))
 
-  -- The bytes behind it are left.
-  pub bytes-behind : drop len (buildMemory limit s out) ≡ drop len out
-  bytes-behind =
+  -- The bytes after it are untouched.
+  pub bytes-after : drop len (buildMemory limit s out) ≡ drop len out
+  bytes-after =
       let same = built-says limit s (length out) n len built .2 in
       rw (there, same, drop-at (builtTable limit (sheetOf s)) _ (length (builtTable limit (sheetOf s))) refl)

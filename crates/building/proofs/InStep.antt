@@ -1,4 +1,4 @@
--- Two ways of placing that walk in step give the same answers: the same fault at the same argument, the same places before it, and the same p behind a list
+-- Two ways of placing that walk in step give the same answers: the same fault at the same argument, the same places before it, and the same p after a list
 -- that has none.
 use Prim.Native.Nat.{ℕ, zero, suc, _*_, _<_}
 use mathlib.Core.Path.{_≡_, refl, sym, ap, _∙_}
@@ -9,10 +9,10 @@ use native.Mathlib.Omega.{arith}
 use lib.Dec.{ltb, leb}
 use lib.ListN.{length, take}
 use borrow.Author.Tests.{ltb-false}
-use Rattle.convention.specs.declared.Placing.{Placing}
+use Rattle.convention.specs.declared.PlacingAnswer.{PlacingAnswer}
 use Rattle.convention.specs.Numbers.{orElse, unless}
 use Rattle.convention.specs.Lists.{Steps, faultFrom, stopFrom, stateFrom, placesFrom, recordLength, unknownAt, KindsBelow}
-use Rattle.convention.specs.Lists.{walkAnswer, placingAnswer, placing, placingMemory}
+use Rattle.convention.specs.Lists.{walkAnswer, placedOrRefused, placing, placingMemory}
 use Rattle.convention.proofs.Numbers.{or-zero, or-here}
 use Rattle.convention.proofs.Lists.{unknown-le, known-below}
 use Rattle.convention.proofs.Runs.{either}
@@ -63,7 +63,7 @@ module _ (M N : Steps) (m : ℕ) (Together : M .State → N .State → Type 0) (
       let both = or-zero (M .fault s k) _ e in
       rw (S .place s u k t (b .0), step-places _ _ ks (S .after s u k t (b .0) (both .0)) (b .1) (both .1))
 
-  -- Behind it they stand together.
+  -- After it they stand together.
   pub step-state : (s : M .State) (u : N .State) (ks : List ℕ) → Together s u → KindsBelow m ks → faultFrom M s ks ≡ 0
       → Together (stateFrom M s ks) (stateFrom N u ks)
   unfolding faultFrom stateFrom KindsBelow
@@ -74,7 +74,7 @@ module _ (M N : Steps) (m : ℕ) (Together : M .State → N .State → Type 0) (
 
   -- So of a call. Answers that are the same and leave the same memory.
   module _ (t : Together (M .begin) (N .begin)) (ks : List ℕ) where
-    abbrev Same : Placing → Placing → Type 0
+    abbrev Same : PlacingAnswer → PlacingAnswer → Type 0
     Same x y = (y ≡ x) × ((out : List ℕ) → placingMemory y N ks out ≡ placingMemory x M ks out)
 
     -- Where the kinds are known, the walk decides.
@@ -86,7 +86,7 @@ module _ (M N : Steps) (m : ℕ) (Together : M .State → N .State → Type 0) (
     same-walk b (suc fault) stop e = (refl, λ out. refl)
 
     -- Where no number stands before it, unknown kinds are looked for first.
-    same-answer : (number : ℕ) → Same (placingAnswer number m M ks) (placingAnswer number m N ks)
+    same-answer : (number : ℕ) → Same (placedOrRefused number m M ks) (placedOrRefused number m N ks)
     unfolding placingMemory
     same-answer zero = elim (either (ltb (unknownAt m ks) (length ks))) [
       | inl o ↦ rw o (refl, λ out. refl)

@@ -19,7 +19,7 @@ use Rattle.convention.proofs.Runs.{either}
 use Rattle.convention.proofs.Numbering.{number-first, meet-known, meet-new, still-more}
 use Rattle.building.specs.declared.memory.Met.{Met}
 use Rattle.building.specs.Keys.{keyOf, stateOf, KeyIs, Passed}
-use Rattle.building.specs.Holding.{Room, Keeps, Holds, StateAt, Finds, Meets}
+use Rattle.building.specs.Holding.{MetRoom, Keeps, MetHolds, StateAt, Finds, Meets}
 use Rattle.building.proofs.Allocations.{allocations-decide}
 
 module _ (sheet : Sheet) where
@@ -37,7 +37,7 @@ module _ (sheet : Sheet) where
     ]
 
 -- Nothing was met yet.
-pub nothing-kept : (sheet : Sheet) (states : List ℕ) → length states ≡ stateLimit → Holds sheet states (record { count = 0; over = false }) []
+pub nothing-kept : (sheet : Sheet) (states : List ℕ) → length states ≡ stateLimit → MetHolds sheet states (record { count = 0; over = false }) []
 nothing-kept sheet states e = record {
   room = record { few = omega arith; long = e };
   all = λ _. record { many = refl; keys = λ i h. absurd (omega arith) };
@@ -54,7 +54,7 @@ module _ (states : List ℕ) (count : ℕ) (a : Allocation) (key : ℕ) (is : Ke
   find-begin = record { within = omega arith; others = λ j h. absurd (omega arith) }
 
   module _ (i : ℕ) (passed : Passed states count key i) where
-    -- The first place that has its key, or behind the last, is its number.
+    -- The first place that has its key, or the one after the last, is its number.
     found : (i < count → getD states i 0 ≡ key) → Finds states count a i
     found there = record {
       within = passed .within;
@@ -74,7 +74,7 @@ module _ (states : List ℕ) (count : ℕ) (a : Allocation) (key : ℕ) (is : Ke
     find-end h = found (λ o. absurd (omega arith))
 
 -- A state met.
-module _ (states : List ℕ) (met : Met) (a : Allocation) (at : ℕ) (room : Room states (met .count)) (finds : Finds states (met .count) a at) where
+module _ (states : List ℕ) (met : Met) (a : Allocation) (at : ℕ) (room : MetRoom states (met .count)) (finds : Finds states (met .count) a at) where
   -- Of the entries kept it is that which it was found to be.
   module _ (sheet : Sheet) (l : List (Entry (allocations sheet))) (e : Entry (allocations sheet)) (q : e .node ≡ a)
       (keeps : Keeps sheet states (met .count) l) where
@@ -111,7 +111,7 @@ module _ (states : List ℕ) (met : Met) (a : Allocation) (at : ℕ) (room : Roo
     };
   }
 
-  -- It is kept behind the others, by its key.
+  -- It is kept after the others, by its key.
   pub meets-new : (key : ℕ) → KeyIs key a → met .count ≤ at → (at ≡ stateLimit → ⊥)
       → Meets states met a (record { count = at + 1; over = met .over }) (set states at key)
   meets-new key is h some = record {

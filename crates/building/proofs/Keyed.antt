@@ -44,10 +44,10 @@ pub key-is : (a : Allocation) (number : ℕ) → length (a .unavailable) ≡ 16 
     → KeyIs (number + 65536 * a .remainder) a
 key-is a number long byte small e =
     let flags : (number + 65536 * a .remainder) % 65536 ≡ number = omega arith in
-    let behind : (number + 65536 * a .remainder) / 65536 ≡ a .remainder = omega arith in
+    let high : (number + 65536 * a .remainder) / 65536 ≡ a .remainder = omega arith in
     let rest : a .remainder % 256 ≡ a .remainder = omega arith in
     let back : setOf 16 number ≡ a .unavailable = rw (e, ← long) (set-back (a .unavailable)) in
-    record { number = rw e; state = rw (flags, behind, rest, back) }
+    record { number = rw e; state = rw (flags, high, rest, back) }
 
 -- One more register doubles a number, and it fits.
 pub number-fits : (number : ℕ) (f : Bool) → number < 65536 → Fits w32 (2 * number + boolByte f)
@@ -81,16 +81,16 @@ module _ (number : ℕ) where
   pub set-begin : SetUpTo number 0 number (replicate 16 false)
   set-begin = record { within = omega arith; long = refl; is = refl }
 
-  module _ (i left : ℕ) (flags : List Bool) (upTo : SetUpTo number i left flags) where
-    pub set-on : i < 16 → SetUpTo number (i + 1) (left / 2) (set flags i (eqb (left % 2) 1))
+  module _ (i rest : ℕ) (flags : List Bool) (upTo : SetUpTo number i rest flags) where
+    pub set-on : i < 16 → SetUpTo number (i + 1) (rest / 2) (set flags i (eqb (rest % 2) 1))
     unfolding setOf
     set-on h = record {
       within = omega arith;
       long = length-set flags i _ ∙ upTo .long;
-      is = rw (add-one, take-suc-set flags i (eqb (left % 2) 1) (omega (arith, upTo .long)), append-snoc, ← more) (upTo .is);
+      is = rw (add-one, take-suc-set flags i (eqb (rest % 2) 1) (omega (arith, upTo .long)), append-snoc, ← more) (upTo .is);
     }
       where
-        more : setOf (16 - i) left ≡ eqb (left % 2) 1 ∷ setOf (16 - suc i) (left / 2)
+        more : setOf (16 - i) rest ≡ eqb (rest % 2) 1 ∷ setOf (16 - suc i) (rest / 2)
         more = let one : 16 - i ≡ suc (16 - suc i) = omega arith in rw one
 
     pub set-end : 16 ≤ i → flags ≡ setOf 16 number

@@ -15,7 +15,7 @@ use Rattle.convention.specs.Sheets.{sheetKind}
 use Rattle.convention.specs.Built.{allocation, fromAllocation}
 use Rattle.convention.specs.Promised.{HeadRead, SheetRead}
 use Rattle.convention.proofs.Offsets.{modulus-pos}
-use Rattle.placing.specs.Asked.{StepAsks, StepIs}
+use Rattle.placing.specs.RulesSteps.{RulesStepAsks, RulesStepIs}
 use Rattle.building.specs.Holding.{LeadAsks, LeadIs}
 
 -- A remainder by a byte is a byte.
@@ -37,10 +37,10 @@ lead-of sheet k h kind a place next eh ek lead = rw (eh, ek) at lead
 
 module _ (h : Head) (kind : SheetKind) (a : Allocation) where
   -- A remainder is a byte, and leaves room on the stack.
-  pub step-asks : LeadAsks h kind → a .remainder < 256 → StepAsks h kind (fromAllocation a)
-  step-asks asks b = record { head = asks .head; kind = asks .kind; room = omega arith }
+  pub rules-step-asks : LeadAsks h kind → a .remainder < 256 → RulesStepAsks h kind (fromAllocation a)
+  rules-step-asks asks b = record { head = asks .head; kind = asks .kind; room = omega arith }
 
-  -- Behind the step the rules stand in the next state.
-  pub led : (place : Placement) (behind : ByRules) (next : Allocation) → StepIs h kind (fromAllocation a) place behind
-      → next ≡ allocation (h .modulus) behind → LeadIs h kind a place next
-  led place behind next step e = record { placed = step .placed; behind = rw (← step .reached) e }
+  -- After the step the rules stand in the next state.
+  pub led : (place : Placement) (after : ByRules) (next : Allocation) → RulesStepIs h kind (fromAllocation a) place after
+      → next ≡ allocation (h .modulus) after → LeadIs h kind a place next
+  led place after next step e = record { placed = step .placed; after = rw (← step .reached) e }

@@ -23,7 +23,7 @@ use Rattle.convention.proofs.Runs.{either}
 use Rattle.convention.proofs.Numbering.{met-grows, whole}
 use Rattle.building.specs.declared.memory.Met.{Met}
 use Rattle.building.specs.Reached.{firstAllocation}
-use Rattle.building.specs.Holding.{Holds, StateAt, Meets, LeadIs, Passes, VisitAsks, Visiting, ExploreAsks, Exploring}
+use Rattle.building.specs.Holding.{MetHolds, StateAt, Meets, LeadIs, Passes, PassKindsAsks, PassingKinds, ExploreAsks, Exploring}
 use Rattle.building.proofs.Leading.{lead-of}
 use Rattle.building.proofs.Keeping.{nothing-kept}
 
@@ -42,7 +42,7 @@ module _ (h : Head) (kind : SheetKind) (a : Allocation) (place : Placement) (nex
   unfolding metFrom
   passes-on r after z meets = record {
     passes = λ sheet k eh ek l i holds.
-        rw (add-one, metFrom, ← goes sheet k eh ek, eq-eqb _ 0 z) (meets .meets sheet _ _ (sym (lead-at sheet k eh ek .behind)) holds);
+        rw (add-one, metFrom, ← goes sheet k eh ek, eq-eqb _ 0 z) (meets .meets sheet _ _ (sym (lead-at sheet k eh ek .after)) holds);
   }
 
   pub passes-nowhere : (fault ≡ 0 → ⊥) → Passes h kind a states met met states
@@ -51,19 +51,19 @@ module _ (h : Head) (kind : SheetKind) (a : Allocation) (place : Placement) (nex
 
 -- State i gone through, before kind k of it.
 module _ (sheet : Sheet) (i k : ℕ) (a : Allocation) (states : List ℕ) (met : Met) where
-  pub visiting-begin : VisitAsks sheet states met i → Visiting sheet a i 0 states met
+  pub passing-begin : PassKindsAsks sheet states met i → PassingKinds sheet a i 0 states met
   unfolding metFrom
-  visiting-begin asks = record { within = omega arith; holds = asks .holds }
+  passing-begin asks = record { within = omega arith; holds = asks .holds }
 
-  pub visiting-on : (r : Met) (after : List ℕ) → Visiting sheet a i k states met → k < sheet .head .kinds
-      → Passes (sheet .head) (sheetKind sheet k) a states met r after → Visiting sheet a i (k + 1) after r
-  visiting-on r after visiting h passes = record { within = omega arith; holds = passes .passes sheet k refl refl _ i (visiting .holds) }
+  pub passing-on : (r : Met) (after : List ℕ) → PassingKinds sheet a i k states met → k < sheet .head .kinds
+      → Passes (sheet .head) (sheetKind sheet k) a states met r after → PassingKinds sheet a i (k + 1) after r
+  passing-on r after visiting h passes = record { within = omega arith; holds = passes .passes sheet k refl refl _ i (visiting .holds) }
 
-  -- Behind the last kind.
-  pub visiting-end : (more : Met) (after : List ℕ) → VisitAsks sheet states met i → StateAt states i a → Visiting sheet a i k after more
-      → sheet .head .kinds ≤ k → Holds sheet after more (metBefore (allocations sheet) (i + 1))
+  -- After the last kind.
+  pub passing-end : (more : Met) (after : List ℕ) → PassKindsAsks sheet states met i → StateAt states i a → PassingKinds sheet a i k after more
+      → sheet .head .kinds ≤ k → MetHolds sheet after more (metBefore (allocations sheet) (i + 1))
   unfolding metBefore through
-  visiting-end more after asks from visiting h =
+  passing-end more after asks from visiting h =
       let keeps = asks .holds .all (asks .whole) in
       let inside : i < length (metBefore (allocations sheet) i) = omega (arith, asks .inside, keeps .many) in
       let last : k ≡ sheet .head .kinds = omega (arith, visiting .within) in
@@ -83,7 +83,7 @@ module _ (sheet : Sheet) where
 
   module _ (i : ℕ) (states : List ℕ) (met : Met) (exploring : Exploring sheet i states met) where
     -- Too many were met: going on meets no fewer.
-    pub exploring-over : met .over ≡ true → Holds sheet states met (builtStates stateLimit sheet)
+    pub exploring-over : met .over ≡ true → MetHolds sheet states met (builtStates stateLimit sheet)
     exploring-over o = record {
       room = exploring .holds .room;
       all = λ f. absurd (true≢false (sym o ∙ f));
@@ -91,7 +91,7 @@ module _ (sheet : Sheet) where
     }
 
     -- All that were met were gone through: going on meets nothing more.
-    pub exploring-end : met .count ≤ i → Holds sheet states met (builtStates stateLimit sheet)
+    pub exploring-end : met .count ≤ i → MetHolds sheet states met (builtStates stateLimit sheet)
     exploring-end h = elim (either (met .over)) [
       | inl o ↦ exploring-over o
       | inr o ↦

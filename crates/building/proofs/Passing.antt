@@ -1,7 +1,7 @@
 -- The reader's numbers, the other way round: no number is given where the bytes are there and have the values that are promised of them.
 use Prim.Native.Nat.{ℕ, suc, _+_, _*_, _/_, _%_, _≤_, _<_}
 use mathlib.Core.Path.{_≡_, refl, _∙_}
-use mathlib.Core.Bool.{true, and-eq-true-iff}
+use mathlib.Core.Bool.{and-eq-true-iff}
 use mathlib.Core.List.{List}
 use native.Mathlib.Nat.{zero-add, le-of-eq, mod-lt, div-add-mod, div-lt-iff-lt-mul}
 use native.Mathlib.Omega.{arith}
@@ -9,10 +9,10 @@ use lib.ListN.{length, drop, length-drop, List·getD-append}
 use lib.Seq.{drop-drop}
 use borrow.Author.Tests.{le-leb, eq-eqb}
 use Rattle.convention.specs.declared.Head.{Head}
-use Rattle.convention.specs.Layout.{kindsAt, shapeLength, statesAt, stateLength, rowsAt, transitionLength, transitionAt, tableLength}
+use Rattle.convention.specs.Layout.{kindsAt, shapeLength, statesAt, stateLength, rowsAt, transitionLength, transitionAt}
 use Rattle.convention.specs.Fields.{lengthNo, versionOf, headOf, shapeNo}
 use Rattle.convention.specs.Tables.{tableKindsNo, tableKindsOf, statesOf, transitionOf, isTransition, transitionNo, transitionsNo, tableNo, tableOf}
-use Rattle.convention.specs.Built.{behindLength}
+use Rattle.convention.specs.Built.{afterLength}
 use Rattle.convention.specs.Promised.{TableRead}
 use Rattle.convention.proofs.Bytes.{length-read}
 use Rattle.convention.proofs.Numbers.{or-on, unless-true, part-pass}
@@ -22,7 +22,7 @@ use Rattle.convention.proofs.Positions.{kind-inside, transition-inside, transit
 use Rattle.convention.proofs.Tables.{table-kinds-count, table-kind-at}
 
 -- The length, where two bytes can say it.
-pub length-pass : (body : List ℕ) → length body < 65536 → lengthNo (behindLength body) ≡ 0
+pub length-pass : (body : List ℕ) → length body < 65536 → lengthNo (afterLength body) ≡ 0
 length-pass body h =
     let counted : 2 ≤ suc (suc (length body)) = omega arith in
     unless-true _ 1 (and-eq-true-iff _ _ .1 (le-leb _ _ counted, eq-eqb _ _ (length-read (length body) body h ∙ omega arith)))

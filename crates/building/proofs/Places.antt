@@ -1,5 +1,5 @@
 -- What the laws of built tables need to know of a place that the rules give: it is a free run, of as many registers as the kind needs and within the sheet's; or
--- the least offset, with the kind's size; or nothing. And of the flags behind a step: what was unavailable stays so.
+-- the least offset, with the kind's size; or nothing. And of the flags after a step: what was unavailable stays so.
 use Prim.Native.Nat.{ℕ, _+_, _≤_, _<_}
 use mathlib.Core.Path.{_≡_, refl, sym, _∙_}
 use mathlib.Core.Logic.{inl, inr}
@@ -15,21 +15,21 @@ use Rattle.convention.specs.declared.ByRules.{ByRules}
 use Rattle.convention.specs.declared.Placement.{Placement}
 use Rattle.convention.specs.declared.Placement.the-variants.{Registers, Stack, Nowhere}
 use Rattle.convention.specs.Sheets.{isClosing}
-use Rattle.convention.specs.Rules.{freeRun, markRun, startsOf, needed, leftOf, startTaken, stackOffset}
+use Rattle.convention.specs.Rules.{freeRun, markRun, startsOf, needed, skippedOf, startTaken, stackOffset}
 use Rattle.convention.specs.Shapes.{stackBytes}
 use Rattle.convention.specs.Rules.{rulesPlace, placeTaken, rulesAfter}
 use Rattle.convention.specs.Promised.{SheetKindRead}
 use Rattle.convention.proofs.Rules.{place-cases}
 use Rattle.convention.proofs.Runs.{either, free-each, free-some, mark-in, mark-out}
-use Rattle.places.proofs.Apart.{mark-stays, place-length}
-use Rattle.placing.proofs.Search.{left-free}
+use Rattle.stepping.proofs.Apart.{mark-stays, place-length}
+use Rattle.placing.proofs.Search.{skipped-free}
 use Rattle.placing.proofs.Given.{closed-length, closed-stays}
 
 -- The run of the start that is taken lies within the sheet's registers.
-taken-fits : (h : Head) (kind : SheetKind) (taken : List Bool) → SheetKindRead h kind → leftOf (h .width) kind taken < length (startsOf kind)
+taken-fits : (h : Head) (kind : SheetKind) (taken : List Bool) → SheetKindRead h kind → skippedOf (h .width) kind taken < length (startsOf kind)
     → startTaken (h .width) kind taken + needed (h .width) kind ≤ h .registers
 taken-fits h kind taken r l =
-    let o : leftOf (h .width) kind taken < kind .tries = omega (arith, rw length-take at l) in
+    let o : skippedOf (h .width) kind taken < kind .tries = omega (arith, rw length-take at l) in
     rw getD-take (r .starts _ o)
 
 -- What holds of a place that the rules give a kind in state s.
@@ -42,7 +42,7 @@ Gives h kind s Nowhere = Unit {0}
 -- The rules give such a place.
 pub rules-give : (h : Head) (kind : SheetKind) (s : ByRules) → SheetKindRead h kind → Gives h kind s (rulesPlace (h .width) kind s)
 rules-give h kind s r =
-    place-cases (h .width) kind (s .unavailable) (λ at. Gives h kind s (at (s .p .0))) (λ l. (left-free _ _ _ l, taken-fits h kind (s .unavailable) r l, refl))
+    place-cases (h .width) kind (s .unavailable) (λ at. Gives h kind s (at (s .p .0))) (λ l. (skipped-free _ _ _ l, taken-fits h kind (s .unavailable) r l, refl))
     (λ _. (refl, refl)) (λ _. tt)
 
 -- The registers of the first set are all in the second.
@@ -75,7 +75,7 @@ taken-within h kind s (Registers first count) taken g n within r e = elim (decLe
 taken-within h kind s (Stack offset count) taken g n within r e = within r e
 taken-within h kind s Nowhere taken g n within r e = within r e
 
--- Behind a step.
+-- After a step.
 module _ (w : ℕ) (kind : SheetKind) (s : ByRules) where
   -- The registers of its place are unavailable, and those that were.
   pub after-within : Within (placeTaken (rulesPlace w kind s) (s .unavailable)) (rulesAfter w kind s .unavailable)

@@ -11,7 +11,6 @@ use lib.ListN.{length, take, drop, length-append, List·getD-append, take-append
 use lib.Seq.{drop-drop, drop-at, take-at}
 use borrow.Author.Tests.{le-leb, lt-ltb, ltb-true, eq-eqb, ne-eqb}
 use Rattle.convention.specs.declared.Head.{Head}
-use Rattle.convention.specs.declared.Shape.{Shape}
 use Rattle.convention.specs.declared.Sheet.{Sheet}
 use Rattle.convention.specs.declared.SheetKind.{SheetKind}
 use Rattle.convention.specs.declared.Allocation.{Allocation}
@@ -20,11 +19,11 @@ use Rattle.convention.specs.declared.Placement.{Placement}
 use Rattle.convention.specs.declared.Placement.the-variants.{Registers, Stack, Nowhere}
 use Rattle.convention.specs.Bytes.{blocks}
 use Rattle.convention.specs.Layout.{kindsAt, shapeLength, stateLength, statesAt, rowsAt, transitionLength, rowLength, rowAt, transitionAt, tableLength, LengthSaid}
-use Rattle.convention.specs.Fields.{lengthNo, versionOf, isVersion, headOf, shapeOf, stateField, stateBytes}
+use Rattle.convention.specs.Fields.{lengthNo, versionOf, headOf, stateField, stateBytes}
 use Rattle.convention.specs.Sheets.{sheetKind, blankShape}
-use Rattle.convention.specs.Tables.{tableKindsOf, transitionOf, isTransition, tableNo, tableOf, tableKind, transition}
+use Rattle.convention.specs.Tables.{tableKindsOf, isTransition, tableNo, tableOf, tableKind, transition}
 use Rattle.convention.specs.Rules.{placeFault, byRules}
-use Rattle.convention.specs.Lists.{spelled}
+use Rattle.convention.specs.Lists.{partsOf}
 use Rattle.convention.specs.Explored.{Entry, entry}
 use Rattle.convention.specs.Built.{fromAllocation, allocations, made, builtTransition, builtVersion, builtCell, builtRow, builtKind, builtBody}
 use Rattle.convention.specs.Built.{tableOfStates, builtStates, builtTable}
@@ -45,10 +44,10 @@ use Rattle.building.proofs.Passing.{length-pass, table-pass}
 
 -- Where there is a place it is of form 1 or 2, and leads to the next state.
 pub made-form : (modulus : ℕ) (place : Placement) (next : ℕ) → placeFault place ≡ 0 → 0 < made modulus place next .form
-made-form modulus place next f = ltb-true 0 (spelled place .form) (unless-zero _ 1 (lit< tt) f)
+made-form modulus place next f = ltb-true 0 (partsOf place .form) (unless-zero _ 1 (lit< tt) f)
 
 pub made-next : (modulus : ℕ) (place : Placement) (next : ℕ) → placeFault place ≡ 0 → made modulus place next .next ≡ next
-made-next modulus place next f = rw (ne-eqb (spelled place .form) 0 (omega (arith, made-form modulus place next f)))
+made-next modulus place next f = rw (ne-eqb (partsOf place .form) 0 (omega (arith, made-form modulus place next f)))
 
 -- It is as 01 allows it, where the next state is one of the table's.
 made-right : (h : Head) (kind : SheetKind) (s : ByRules) (place : Placement) (states next : ℕ) → Gives h kind s place → 0 < h .modulus

@@ -25,8 +25,8 @@ use Rattle.convention.specs.Explored.{Entry}
 use Rattle.convention.specs.Built.{allocations, made, builtVersion, builtCell, builtRow, builtKind, builtBody, tableOfStates, builtStates, builtTable}
 use Rattle.convention.proofs.Bytes.{length-written, written-nothing, written-sets, written-one, written-more, written-block}
 use Rattle.convention.proofs.Positions.{state-wide, kind-inside, row-inside, transition-inside}
-use Rattle.building.specs.Holding.{Room, StateAt, Finds, LeadIs}
-use Rattle.building.specs.Writing.{StatesKept, CellAsks, CellIs, TableAsks, RowAsks, KindsAsk, openingBytes, FrontAsks, frontBytes, BlocksLeft}
+use Rattle.building.specs.Holding.{MetRoom, StateAt, Finds, LeadIs}
+use Rattle.building.specs.Writing.{StatesKept, CellAsks, CellIs, TableAsks, RowAsks, KindsAsk, openingBytes, FrontAsks, frontBytes, BlocksSoFar}
 use Rattle.building.proofs.Readable.{built-length, kind-wide, kinds-length, cell-wide, row-wide}
 use Rattle.building.proofs.Leading.{lead-asks, lead-of}
 
@@ -62,7 +62,7 @@ stores-keep d out at i j a b c e = simp length-set at e
 
 -- A transition's next is a state that was met, or there are as many.
 pub next-few : (modulus : ℕ) (place : Placement) (states : List ℕ) (count : ℕ) (a : Allocation) (number : ℕ) (x : Transition)
-    → x ≡ made modulus place number → Finds states count a number → Room states count → x .next ≤ stateLimit
+    → x ≡ made modulus place number → Finds states count a number → MetRoom states count → x .next ≤ stateLimit
 next-few modulus place states count a number x e finds room = rw e (most place)
   where
     most : (place : Placement) → made modulus place number .next ≤ stateLimit
@@ -78,42 +78,42 @@ unfolding builtCell
 cell-written v h kind a states count place next number x d at now lead finds ex e = record {
   cell = λ sheet k ev eh ek keeps.
       let here = lead-of sheet k h kind a place next eh ek lead in
-      rw (← ev, ← here .placed, ← here .behind, ← finds .finds sheet _ keeps, ← eh) (rw ex at e);
+      rw (← ev, ← here .placed, ← here .after, ← finds .finds sheet _ keeps, ← eh) (rw ex at e);
 }
 
 -- Blocks of w bytes, one after the other from byte `at` on: none yet, one more, all.
 module _ (f : ℕ → List ℕ) (at all : ℕ) (before : List ℕ) where
-  pub blocks-begin : BlocksLeft f at 0 all before before
+  pub blocks-begin : BlocksSoFar f at 0 all before before
   unfolding blocks
   blocks-begin = record { within = omega arith; there = sym (written-nothing before at); long = refl }
 
-  blocks-on : (w n : ℕ) (out after : List ℕ) → ((i : ℕ) → length (f i) ≡ w) → BlocksLeft f at n all before out → n < all
-      → at + w * n + w ≤ length before → after ≡ written out (at + w * n) (f n) → BlocksLeft f at (n + 1) all before after
-  blocks-on w n out after wide left h room e =
-      let place : at + w * n + length (f n) ≤ length out = omega (arith, wide n, left .long) in
+  blocks-on : (w n : ℕ) (out after : List ℕ) → ((i : ℕ) → length (f i) ≡ w) → BlocksSoFar f at n all before out → n < all
+      → at + w * n + w ≤ length before → after ≡ written out (at + w * n) (f n) → BlocksSoFar f at (n + 1) all before after
+  blocks-on w n out after wide half h room e =
+      let place : at + w * n + length (f n) ≤ length out = omega (arith, wide n, half .long) in
       record {
         within = omega arith;
-        there = rw (e, left .there, add-one) (written-block before at f w n (λ i _. wide i) (omega arith));
-        long = rw e (length-written out (at + w * n) (f n) place) ∙ left .long;
+        there = rw (e, half .there, add-one) (written-block before at f w n (λ i _. wide i) (omega arith));
+        long = rw e (length-written out (at + w * n) (f n) place) ∙ half .long;
       }
 
-  pub blocks-end : (n : ℕ) (out : List ℕ) → BlocksLeft f at n all before out → all ≤ n → out ≡ written before at (blocks f all)
-  blocks-end n out left h = let same : n ≡ all = omega (arith, left .within) in rw same at (left .there)
+  pub blocks-end : (n : ℕ) (out : List ℕ) → BlocksSoFar f at n all before out → all ≤ n → out ≡ written before at (blocks f all)
+  blocks-end n out half h = let same : n ≡ all = omega (arith, half .within) in rw same at (half .there)
 
 -- The kinds.
 module _ (sheet : Sheet) (k : ℕ) (before out : List ℕ) (asks : KindsAsk sheet before) (h : k < sheet .head .kinds)
-    (left : BlocksLeft (builtKind sheet) kindsAt k (sheet .head .kinds) before out) (v at : ℕ) (ev : v ≡ builtVersion sheet) (ea : at ≡ tableKindAt v k) where
+    (half : BlocksSoFar (builtKind sheet) kindsAt k (sheet .head .kinds) before out) (v at : ℕ) (ev : v ≡ builtVersion sheet) (ea : at ≡ tableKindAt v k) where
   inside : tableKindAt (builtVersion sheet) k + shapeLength (builtVersion sheet) ≤ length before
   inside = omega (arith, kind-inside (builtVersion sheet) (sheet .head) k h, asks .there)
 
   -- There is room for one more, and it is written.
   pub kind-room : at + shapeLength v ≤ length out
-  kind-room = rw (ea, ev, left .long) inside
+  kind-room = rw (ea, ev, half .long) inside
 
   pub kind-on : (after : List ℕ) → after ≡ written out at (shapeBytes v (sheetKind sheet k .shape))
-      → BlocksLeft (builtKind sheet) kindsAt (k + 1) (sheet .head .kinds) before after
+      → BlocksSoFar (builtKind sheet) kindsAt (k + 1) (sheet .head .kinds) before after
   kind-on after e =
-      blocks-on (builtKind sheet) kindsAt _ before (shapeLength (builtVersion sheet)) k out after (kind-wide sheet) left h inside (rw (ea, ev) at e)
+      blocks-on (builtKind sheet) kindsAt _ before (shapeLength (builtVersion sheet)) k out after (kind-wide sheet) half h inside (rw (ea, ev) at e)
 
 -- The rows.
 module _ (sheet : Sheet) where
@@ -131,7 +131,7 @@ module _ (sheet : Sheet) where
 
   -- The cells of a row.
   module _ (states : List ℕ) (count i k : ℕ) (before out : List ℕ) (asks : RowAsks sheet states count i before) (a : Allocation)
-      (left : BlocksLeft (builtCell sheet l a) (rowAt v head i) k m before out) where
+      (half : BlocksSoFar (builtCell sheet l a) (rowAt v head i) k m before out) where
     -- One more.
     module _ (h : k < m) (v′ at : ℕ) (ev : v′ ≡ v) (ea : at ≡ transitionAt v′ head i k) where
       there : transitionAt v head i k + transitionLength v ≤ length before
@@ -140,12 +140,12 @@ module _ (sheet : Sheet) where
       pub cell-asks : CellAsks v′ (sheet .head) (sheetKind sheet k) states count out at
       cell-asks =
           let kept = asks .asks .kept in
-          record { lead = lead-asks sheet k (kept .read) h; room = kept .room; there = rw (ea, ev, left .long) there }
+          record { lead = lead-asks sheet k (kept .read) h; room = kept .room; there = rw (ea, ev, half .long) there }
 
       pub cell-on : (after : List ℕ) → CellIs v′ (sheet .head) (sheetKind sheet k) a states count out at after
-          → BlocksLeft (builtCell sheet l a) (rowAt v head i) (k + 1) m before after
+          → BlocksSoFar (builtCell sheet l a) (rowAt v head i) (k + 1) m before after
       cell-on after is =
-          blocks-on (builtCell sheet l a) (rowAt v head i) m before (transitionLength v) k out after (cell-wide sheet l a) left h there
+          blocks-on (builtCell sheet l a) (rowAt v head i) m before (transitionLength v) k out after (cell-wide sheet l a) half h there
           (rw (ea, ev) at (is .cell sheet k ev refl refl (asks .asks .kept .keeps)))
 
     -- All of them.
@@ -153,18 +153,18 @@ module _ (sheet : Sheet) where
     unfolding builtRow
     row-end from h =
         let node = from .state sheet count l (asks .asks .kept .keeps) (asks .inside) in
-        rw node (blocks-end _ (rowAt v head i) m before k out left h)
+        rw node (blocks-end _ (rowAt v head i) m before k out half h)
 
   -- The rows.
   module _ (states : List ℕ) (count i : ℕ) (before out : List ℕ) (asks : TableAsks sheet states count before) (h : i < count)
-      (left : BlocksLeft (builtRow sheet l) (rowsAt v head) i count before out) where
+      (half : BlocksSoFar (builtRow sheet l) (rowsAt v head) i count before out) where
     pub row-asks : RowAsks sheet states count i out
-    row-asks = record { asks = record { kept = asks .kept; there = rw (left .long) (asks .there) }; inside = h }
+    row-asks = record { asks = record { kept = asks .kept; there = rw (half .long) (asks .there) }; inside = h }
 
     pub row-on : (after : List ℕ) → after ≡ written out (rowAt v head i) (builtRow sheet l i)
-        → BlocksLeft (builtRow sheet l) (rowsAt v head) (i + 1) count before after
+        → BlocksSoFar (builtRow sheet l) (rowsAt v head) (i + 1) count before after
     row-on after e =
-        blocks-on (builtRow sheet l) (rowsAt v head) count before (rowLength v head) i out after (row-wide sheet l) left h
+        blocks-on (builtRow sheet l) (rowsAt v head) count before (rowLength v head) i out after (row-wide sheet l) half h
         (omega (arith, row-inside v head count i h, asks .there)) e
 
 -- One more part, written right after those from the first byte on.

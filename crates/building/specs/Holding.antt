@@ -19,7 +19,7 @@ use Rattle.building.specs.Keys.{KeyIs}
 use Rattle.building.specs.declared.memory.Met.{Met}
 
 -- So many states, in the room for as many as a table may have.
-pub record Room (states : List ℕ) (count : ℕ) : Type 0 where
+pub record MetRoom (states : List ℕ) (count : ℕ) : Type 0 where
   pub few : count ≤ stateLimit
   pub long : length states ≡ stateLimit
 
@@ -29,8 +29,8 @@ pub record Keeps (sheet : Sheet) (states : List ℕ) (count : ℕ) (l : List (En
   pub keys : (i : ℕ) → i < length l → KeyIs (getD states i 0) (entry (allocations sheet) l i .node)
 
 -- The states kept are those of the entries of l, all of them, or there are more than have room.
-pub record Holds (sheet : Sheet) (states : List ℕ) (met : Met) (l : List (Entry (allocations sheet))) : Type 0 where
-  pub room : Room states (met .count)
+pub record MetHolds (sheet : Sheet) (states : List ℕ) (met : Met) (l : List (Entry (allocations sheet))) : Type 0 where
+  pub room : MetRoom states (met .count)
   pub all : met .over ≡ false → Keeps sheet states (met .count) l
   pub more : met .over ≡ true → stateLimit < length l
 
@@ -46,40 +46,40 @@ pub record Finds (states : List ℕ) (count : ℕ) (a : Allocation) (r : ℕ) : 
 
 -- An allocation state met: whatever entries were kept, those are kept that the meeting of an entry with this state makes of them.
 pub record Meets (states : List ℕ) (met : Met) (a : Allocation) (r : Met) (after : List ℕ) : Type 0 where
-  pub meets : (sheet : Sheet) (l : List (Entry (allocations sheet))) (e : Entry (allocations sheet)) → e .node ≡ a → Holds sheet states met l
-      → Holds sheet after r (meet (allocations sheet) l e)
+  pub meets : (sheet : Sheet) (l : List (Entry (allocations sheet))) (e : Entry (allocations sheet)) → e .node ≡ a → MetHolds sheet states met l
+      → MetHolds sheet after r (meet (allocations sheet) l e)
 
 -- A head and a kind that were read.
 pub record LeadAsks (h : Head) (k : SheetKind) : Type 0 where
   pub head : HeadRead h
   pub kind : SheetKindRead h k
 
--- Where the kind leads from an allocation state: the place, and the state behind it.
+-- Where the kind leads from an allocation state: the place, and the state after it.
 pub record LeadIs (h : Head) (k : SheetKind) (a : Allocation) (place : Placement) (next : Allocation) : Type 0 where
   pub placed : place ≡ rulesPlace (h .width) k (fromAllocation a)
-  pub behind : next ≡ allocation (h .modulus) (rulesAfter (h .width) k (fromAllocation a))
+  pub after : next ≡ allocation (h .modulus) (rulesAfter (h .width) k (fromAllocation a))
 
 -- One kind gone through at a state.
 pub record PassAsks (h : Head) (k : SheetKind) (states : List ℕ) (count : ℕ) : Type 0 where
   pub lead : LeadAsks h k
-  pub room : Room states count
+  pub room : MetRoom states count
 
 -- Where it is kind k of a sheet, and what the kinds before it led to is kept, so is what it leads to.
 pub record Passes (h : Head) (kind : SheetKind) (a : Allocation) (states : List ℕ) (met r : Met) (after : List ℕ) : Type 0 where
   pub passes : (sheet : Sheet) (k : ℕ) → h ≡ sheet .head → kind ≡ sheetKind sheet k → (l : List (Entry (allocations sheet))) (i : ℕ)
-      → Holds sheet states met (metFrom (allocations sheet) l a i k) → Holds sheet after r (metFrom (allocations sheet) l a i (k + 1))
+      → MetHolds sheet states met (metFrom (allocations sheet) l a i k) → MetHolds sheet after r (metFrom (allocations sheet) l a i (k + 1))
 
 -- State i gone through: those before it were, and it was met.
-pub record VisitAsks (sheet : Sheet) (states : List ℕ) (met : Met) (i : ℕ) : Type 0 where
+pub record PassKindsAsks (sheet : Sheet) (states : List ℕ) (met : Met) (i : ℕ) : Type 0 where
   pub read : SheetRead sheet
-  pub holds : Holds sheet states met (metBefore (allocations sheet) i)
+  pub holds : MetHolds sheet states met (metBefore (allocations sheet) i)
   pub whole : met .over ≡ false
   pub inside : i < met .count
 
 -- Half way through it, before kind k.
-pub record Visiting (sheet : Sheet) (a : Allocation) (i k : ℕ) (states : List ℕ) (met : Met) : Type 0 where
+pub record PassingKinds (sheet : Sheet) (a : Allocation) (i k : ℕ) (states : List ℕ) (met : Met) : Type 0 where
   pub within : k ≤ sheet .head .kinds
-  pub holds : Holds sheet states met (metFrom (allocations sheet) (metBefore (allocations sheet) i) a i k)
+  pub holds : MetHolds sheet states met (metFrom (allocations sheet) (metBefore (allocations sheet) i) a i k)
 
 -- The states of a sheet that was read, in the room for as many as a table may have.
 pub record ExploreAsks (sheet : Sheet) (states : List ℕ) : Type 0 where
@@ -89,4 +89,4 @@ pub record ExploreAsks (sheet : Sheet) (states : List ℕ) : Type 0 where
 -- Half way through the states, before state i.
 pub record Exploring (sheet : Sheet) (i : ℕ) (states : List ℕ) (met : Met) : Type 0 where
   pub within : i ≤ stateLimit
-  pub holds : Holds sheet states met (metBefore (allocations sheet) i)
+  pub holds : MetHolds sheet states met (metBefore (allocations sheet) i)

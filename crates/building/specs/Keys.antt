@@ -18,7 +18,7 @@ unfoldable pub setOf : ℕ → ℕ → List Bool
 setOf zero number = []
 setOf (suc n) number = eqb (number % 2) 1 ∷ setOf n (number / 2)
 
--- There are 65536 sets of sixteen registers: behind those counts the remainder, a byte.
+-- There are 65536 sets of sixteen registers; the remainder, a byte, counts as many for each.
 abbrev pub keyOf : Allocation → ℕ
 keyOf a = setNumber (a .unavailable) + 65536 * a .remainder
 
@@ -30,17 +30,17 @@ pub record KeyIs (key : ℕ) (a : Allocation) : Type 0 where
   pub number : key ≡ keyOf a
   pub state : stateOf key ≡ a
 
--- Half way down the registers of a set: the number is that of register i and those behind it.
+-- Half way down the registers of a set: the number is that of register i and those after it.
 pub record NumberFrom (flags : List Bool) (i number : ℕ) : Type 0 where
   pub within : i ≤ 16
   pub is : number ≡ setNumber (drop i flags)
   pub small : number < 65536
 
--- Half way up the registers of the set that has a number: the flags before register i, and those that what is left stands for.
-pub record SetUpTo (number i left : ℕ) (flags : List Bool) : Type 0 where
+-- Half way up the registers of the set that has a number: the flags before register i, and those that the rest of the number stands for.
+pub record SetUpTo (number i rest : ℕ) (flags : List Bool) : Type 0 where
   pub within : i ≤ 16
   pub long : length flags ≡ 16
-  pub is : take i flags ++ setOf (16 - i) left ≡ setOf 16 number
+  pub is : take i flags ++ setOf (16 - i) rest ≡ setOf 16 number
 
 -- Half way through the keys of so many states: none of the first i is this one.
 pub record Passed (states : List ℕ) (count key i : ℕ) : Type 0 where

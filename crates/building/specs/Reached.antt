@@ -9,7 +9,7 @@ use Rattle.convention.specs.Rules.{noRegisters, byRules}
 use Rattle.convention.specs.Lists.{faultFrom, stateFrom, KindsBelow}
 use Rattle.convention.specs.Built.{allocation}
 
--- 'states that some list of kinds reaches by the rules': every argument of the list has a place, and behind the last the rules stand in the state.
+-- 'states that some list of kinds reaches by the rules': every argument of the list has a place, and after the last the rules stand in the state.
 pub record Reaches (sheet : Sheet) (ks : List ℕ) (a : Allocation) : Type 0 where
   pub known : KindsBelow (sheet .head .kinds) ks
   pub placed : faultFrom (byRules sheet) (byRules sheet .begin) ks ≡ 0

@@ -7,33 +7,33 @@ use lib.ListN.{length}
 use Rattle.convention.specs.declared.Head.{Head}
 use Rattle.convention.specs.declared.SheetKind.{SheetKind}
 use Rattle.convention.specs.declared.Sheet.{Sheet}
-use Rattle.convention.specs.declared.Spelling.{Spelling}
+use Rattle.convention.specs.declared.PlacementParts.{PlacementParts}
 use Rattle.convention.specs.declared.Allocation.{Allocation}
-use Rattle.convention.specs.declared.Building.{Building}
+use Rattle.convention.specs.declared.BuildingAnswer.{BuildingAnswer}
 use Rattle.convention.specs.Numbers.{stateLimit, orElse, unless}
 use Rattle.convention.specs.Bytes.{twoBytes, written, blocks}
 use Rattle.convention.specs.Sheets.{sheetKind}
 use Rattle.convention.specs.Layout.{lengthBytes, statesAt, rowsAt, transitionLength, tableLength}
 use Rattle.convention.specs.Fields.{stateBytes}
 use Rattle.convention.specs.Promised.{SheetRead}
-use Rattle.convention.specs.Built.{builtKind, builtVersion, builtCell, builtStates, builtTable, statesNumber, buildAnswer, buildWrites}
-use Rattle.building.specs.Holding.{Room, Keeps, LeadAsks}
+use Rattle.convention.specs.Built.{builtKind, builtVersion, builtCell, builtStates, builtTable, statesNumber, builtOrRefused, buildWrites}
+use Rattle.building.specs.Holding.{MetRoom, Keeps, LeadAsks}
 
 -- A sheet that was read, and all its states kept, no more than have room.
 pub record StatesKept (sheet : Sheet) (states : List ℕ) (count : ℕ) : Type 0 where
   pub read : SheetRead sheet
-  pub room : Room states count
+  pub room : MetRoom states count
   pub keeps : Keeps sheet states count (builtStates stateLimit sheet)
 
 -- What a placement is made of, to be a transition's: a number that is no offset is a byte.
-pub record FieldAsks (modulus : ℕ) (told : Spelling) : Type 0 where
+pub record FieldAsks (modulus : ℕ) (parts : PlacementParts) : Type 0 where
   pub some : 0 < modulus
-  pub byte : (told .form ≡ 2 → ⊥) → told .number < 256
+  pub byte : (parts .form ≡ 2 → ⊥) → parts .number < 256
 
 -- One transition, from byte `at` on: that of a head and a kind that were read.
 pub record CellAsks (v : ℕ) (h : Head) (k : SheetKind) (states : List ℕ) (count : ℕ) (out : List ℕ) (at : ℕ) : Type 0 where
   pub lead : LeadAsks h k
-  pub room : Room states count
+  pub room : MetRoom states count
   pub there : at + transitionLength v ≤ length out
 
 -- Where it is kind k of a sheet, and the sheet's states are kept, the transition is that of the built table.
@@ -71,8 +71,8 @@ pub record FrontAsks (sheet : Sheet) (states : ℕ) (out : List ℕ) : Type 0 wh
   pub room : states ≤ stateLimit
   pub there : rowsAt (builtVersion sheet) (sheet .head) ≤ length out
 
--- Half way through blocks that are written one behind the other from byte `at` on: n of all are there.
-pub record BlocksLeft (block : ℕ → List ℕ) (at n all : ℕ) (before out : List ℕ) : Type 0 where
+-- Half way through blocks that are written one after the other from byte `at` on: n of all are there.
+pub record BlocksSoFar (block : ℕ → List ℕ) (at n all : ℕ) (before out : List ℕ) : Type 0 where
   pub within : n ≤ all
   pub there : out ≡ written before at (blocks block n)
   pub long : length out ≡ length before
@@ -82,6 +82,6 @@ abbrev pub tableNumber : Sheet → ℕ → ℕ
 tableNumber sheet room = orElse (statesNumber stateLimit sheet) (unless (leb (length (builtTable stateLimit sheet)) room) 12)
 
 -- The answer of building its table, and the lent memory afterwards.
-pub record BuildingIs (sheet : Sheet) (before : List ℕ) (answer : Building) (after : List ℕ) : Type 0 where
-  pub answers : answer ≡ buildAnswer (tableNumber sheet (length before)) (length (builtStates stateLimit sheet)) (length (builtTable stateLimit sheet))
+pub record BuildingIs (sheet : Sheet) (before : List ℕ) (answer : BuildingAnswer) (after : List ℕ) : Type 0 where
+  pub answers : answer ≡ builtOrRefused (tableNumber sheet (length before)) (length (builtStates stateLimit sheet)) (length (builtTable stateLimit sheet))
   pub memory : after ≡ buildWrites (tableNumber sheet (length before)) (builtTable stateLimit sheet) before

@@ -2,17 +2,17 @@
 mod memory;
 
 use convention::Allocation;
-use convention::Building;
+use convention::BuildingAnswer;
 use convention::ByRules;
 use convention::Head;
 use convention::Offset;
 use convention::Placement;
+use convention::PlacementParts;
 use convention::Reading;
 use convention::STATE_LIMIT;
 use convention::Shape;
 use convention::Sheet;
 use convention::SheetKind;
-use convention::Spelling;
 use convention::Transition;
 use fields::layout;
 use fields::layout::A_AT;
@@ -39,9 +39,9 @@ ghost use Rattle.convention.specs.Fields.{shapeBytes, stateBytes};
 ghost use Rattle.convention.specs.Tables.{transitionBytes};
 ghost use Rattle.convention.specs.Promised.{SheetRead};
 ghost use Rattle.convention.specs.Explored.{met as metBefore};
-ghost use Rattle.convention.specs.Built.{allocation as allocationOf, allocations, fieldA, made, builtVersion, builtRow, builtKind, builtStates, builtTable, buildAnswer, build as builds, buildMemory};
+ghost use Rattle.convention.specs.Built.{allocation as allocationOf, allocations, fieldA, made, builtVersion, builtRow, builtKind, builtStates, builtTable, builtOrRefused, build as builds, buildMemory};
 ghost use Rattle.building.specs.Reached.{firstAllocation};
-ghost use Rattle.building.specs.Holding.{Holds, LeadAsks, LeadIs, PassAsks, Passes, VisitAsks, ExploreAsks};
+ghost use Rattle.building.specs.Holding.{MetHolds, LeadAsks, LeadIs, PassAsks, Passes, PassKindsAsks, ExploreAsks};
 ghost use Rattle.building.specs.Writing.{FieldAsks, CellAsks, CellIs, TableAsks, RowAsks, KindsAsk, openingBytes, FrontAsks, frontBytes, BuildingIs};
 use crate::memory::Met;
 
@@ -67,7 +67,7 @@ fn allocation(modulus: u8, s: ByRules) -> Allocation
     }
 }
 
-// Where a kind leads from an allocation state: the place that the rules give, and the state behind it.
+// Where a kind leads from an allocation state: the place that the rules give, and the state after it.
 pub struct Led {
     pub place: Placement,
     pub next: Allocation,
@@ -85,8 +85,8 @@ fn lead(head: Head, kind: SheetKind, a: Allocation) -> Led
     };
     let stepped = placing::step(head, kind, from);
     let place = stepped.place;
-    let behind = stepped.next;
-    let next = allocation(head.modulus, behind);
+    let after = stepped.next;
+    let next = allocation(head.modulus, after);
     Led { place, next }
 }
 
@@ -97,17 +97,17 @@ fn pass(head: Head, kind: SheetKind, a: Allocation, states: &mut [u32], met: Met
 {
     let led = lead(head, kind, a);
     let place = led.place;
-    if places::place_fault(place) == 0 {
+    if stepping::place_fault(place) == 0 {
         let next = led.next;
-        return memory::meet(states, met, next);
+        return memory::meet_state(states, met, next);
     }
     met
 }
 
 // State i gone through, in the order of the kinds.
-fn visit(sheet: Sheet, states: &mut [u32], met: Met, i: usize) -> Met
-    requires { ⌜ VisitAsks sheet (now states) met i ⌝ }
-    ensures { λ r. ⌜ Holds sheet (now (states .exit)) r (metBefore (allocations sheet) (i + 1)) ⌝ }
+fn pass_kinds(sheet: Sheet, states: &mut [u32], met: Met, i: usize) -> Met
+    requires { ⌜ PassKindsAsks sheet (now states) met i ⌝ }
+    ensures { λ r. ⌜ MetHolds sheet (now (states .exit)) r (metBefore (allocations sheet) (i + 1)) ⌝ }
 {
     let from = memory::state_at(states, i);
     let head = sheet.head;
@@ -135,19 +135,19 @@ fn first_state() -> Allocation
 // The states that lists of kinds reach, in the order of meeting: each that was met is gone through, by its number.
 fn explore(sheet: Sheet, states: &mut [u32]) -> Met
     requires { ⌜ ExploreAsks sheet (now states) ⌝ }
-    ensures { λ r. ⌜ Holds sheet (now (states .exit)) r (builtStates stateLimit sheet) ⌝ }
+    ensures { λ r. ⌜ MetHolds sheet (now (states .exit)) r (builtStates stateLimit sheet) ⌝ }
 {
     let none = Met {
         count: 0,
         over: false,
     };
-    let mut met = memory::meet(states, none, first_state());
+    let mut met = memory::meet_state(states, none, first_state());
     let mut i: usize = 0;
     while i < met.count {
         if met.over {
             return met;
         }
-        met = visit(sheet, states, met, i);
+        met = pass_kinds(sheet, states, met, i);
         i += 1;
     }
     met
@@ -178,14 +178,14 @@ fn write_shape(version: u8, shape: Shape, out: &mut [u8], at: usize)
 }
 
 // Field a of a transition: on the stack the residue, the offset's remainder by A; otherwise the number as it stands.
-fn field_a(modulus: u8, told: Spelling) -> u8
-    requires { ⌜ FieldAsks modulus told ⌝ }
-    ensures { λ r. ⌜ r ≡ fieldA modulus told ⌝ }
+fn field_a(modulus: u8, parts: PlacementParts) -> u8
+    requires { ⌜ FieldAsks modulus parts ⌝ }
+    ensures { λ r. ⌜ r ≡ fieldA modulus parts ⌝ }
 {
-    if told.form == 2 {
-        return residue(modulus, Offset(told.number));
+    if parts.form == 2 {
+        return residue(modulus, Offset(parts.number));
     }
-    told.number as u8
+    parts.number as u8
 }
 
 // The transition that is made of a place and the next state's number.
@@ -193,13 +193,13 @@ fn make_transition(modulus: u8, place: Placement, next: u16) -> Transition
     requires { ⌜ 0 < modulus ⌝ }
     ensures { λ r. ⌜ r ≡ made modulus place next ⌝ }
 {
-    let told = places::spell(place);
-    let a = field_a(modulus, told);
-    let leads = if told.form == 0 { 0 } else { next };
+    let parts = stepping::parts_of(place);
+    let a = field_a(modulus, parts);
+    let leads = if parts.form == 0 { 0 } else { next };
     Transition {
-        form: told.form,
+        form: parts.form,
         a,
-        b: told.count,
+        b: parts.count,
         next: leads,
     }
 }
@@ -231,7 +231,7 @@ fn write_cell(
 {
     let led = lead(head, kind, a);
     let next = led.next;
-    let number = memory::find(states, count, next);
+    let number = memory::find_state(states, count, next);
     let place = led.place;
     let x = make_transition(head.modulus, place, number as u16);
     write_transition(version, x, out, at);
@@ -330,18 +330,18 @@ fn build_no(met: Met, len: usize, room: usize) -> u8
 }
 
 // What a number answers: N and the table's length where it is 0, else the refusal.
-fn build_answer(number: u8, states: usize, len: usize) -> Building
+fn build_answer(number: u8, states: usize, len: usize) -> BuildingAnswer
     requires { ⌜ states ≤ stateLimit ⌝ }
-    ensures { λ r. ⌜ r ≡ buildAnswer number states len ⌝ }
+    ensures { λ r. ⌜ r ≡ builtOrRefused number states len ⌝ }
 {
     if number != 0 {
-        return Building::Refused(number);
+        return BuildingAnswer::Refused(number);
     }
-    Building::Built(states as u16, len)
+    BuildingAnswer::Built(states as u16, len)
 }
 
 // Builds the table of a sheet that was read. It is written only where no number is given.
-fn build_sheet(sheet: Sheet, out: &mut [u8]) -> Building
+fn build_sheet(sheet: Sheet, out: &mut [u8]) -> BuildingAnswer
     requires { ⌜ SheetRead sheet ⌝ }
     ensures { λ r. ⌜ BuildingIs sheet (now (out .entry)) r (now (out .exit)) ⌝ }
 {
@@ -358,7 +358,7 @@ fn build_sheet(sheet: Sheet, out: &mut [u8]) -> Building
 
 // Builds a sheet's table: N and the table's length, with the table in the first bytes of `out`, or a refusal that writes
 // nothing. The contract gives the answer and the memory outright, so any two answers that it allows coincide.
-pub fn build(sheet: &[u8], out: &mut [u8]) -> Building
+pub fn build(sheet: &[u8], out: &mut [u8]) -> BuildingAnswer
     ensures { λ r. ⌜ r ≡ builds stateLimit (now (sheet .entry)) (length (now (out .entry))) ⌝ }
     ensures { λ _. ⌜ now (out .exit) ≡ buildMemory stateLimit (now (sheet .entry)) (now (out .entry)) ⌝ }
 {
@@ -367,6 +367,6 @@ pub fn build(sheet: &[u8], out: &mut [u8]) -> Building
     let read = answer.sheet;
     match reading {
         Reading::Read => build_sheet(read, out),
-        Reading::Refused(number) => Building::Refused(number),
+        Reading::Refused(number) => BuildingAnswer::Refused(number),
     }
 }

@@ -6,7 +6,7 @@ ghost use mathlib.Core.Path.{_≡_};
 ghost use Prim.Native.Nat.{_<_};
 ghost use lib.ListN.{length};
 ghost use Rattle.building.specs.Keys.{setNumber, setOf, stateOf, KeyIs};
-ghost use Rattle.building.specs.Holding.{Room, StateAt, Finds, Meets};
+ghost use Rattle.building.specs.Holding.{MetRoom, StateAt, Finds, Meets};
 
 // How many states were met. Once it is `over`, more were met than have room.
 pub(crate) struct Met {
@@ -33,11 +33,11 @@ fn set_of(number: u32) -> [bool; 16]
     ensures { λ r. ⌜ r ≡ setOf 16 number ⌝ }
 {
     let mut flags = [false; 16];
-    let mut left = number;
+    let mut rest = number;
     let mut i: usize = 0;
     while i < 16 {
-        flags[i] = left % 2 == 1;
-        left = left / 2;
+        flags[i] = rest % 2 == 1;
+        rest = rest / 2;
         i += 1;
     }
     flags
@@ -71,8 +71,8 @@ pub(crate) fn state_at(states: &[u32], i: usize) -> Allocation
 }
 
 // The number of a state among those met, or their count where it was not met.
-pub(crate) fn find(states: &[u32], count: usize, a: Allocation) -> usize
-    requires { ⌜ Room (now states) count ⌝ }
+pub(crate) fn find_state(states: &[u32], count: usize, a: Allocation) -> usize
+    requires { ⌜ MetRoom (now states) count ⌝ }
     ensures { λ r. ⌜ Finds (now (states .entry)) count a r ⌝ }
 {
     let wanted = key(a);
@@ -86,12 +86,12 @@ pub(crate) fn find(states: &[u32], count: usize, a: Allocation) -> usize
     i
 }
 
-// A state met: kept behind the others if it is new and there is room for it.
-pub(crate) fn meet(states: &mut [u32], met: Met, a: Allocation) -> Met
-    requires { ⌜ Room (now states) (met .count) ⌝ }
+// A state met: kept after the others if it is new and there is room for it.
+pub(crate) fn meet_state(states: &mut [u32], met: Met, a: Allocation) -> Met
+    requires { ⌜ MetRoom (now states) (met .count) ⌝ }
     ensures { λ r. ⌜ Meets (now (states .entry)) met a r (now (states .exit)) ⌝ }
 {
-    let at = find(states, met.count, a);
+    let at = find_state(states, met.count, a);
     if at < met.count {
         return met;
     }

@@ -8,7 +8,7 @@ use Rattle.convention.specs.Fields.{versionOf, headOf, headNo, openingNo, shape
 use Rattle.convention.specs.Shapes.{rightCount, stackBytes}
 use Rattle.convention.specs.Sheets.{startsNo, sheetKindNo, sheetKindOf, sheetKindsNo, sheetKindsOf, sheetKindsLength, sheetNo, sheetOf}
 use Rattle.convention.specs.Offsets.{leastOffset}
-use Rattle.convention.specs.Rules.{freeRun, markRuns, leftBefore, rulesPlace, rulesAfter}
+use Rattle.convention.specs.Rules.{freeRun, markRuns, skippedBefore, rulesPlace, rulesAfter}
 use Rattle.convention.specs.Explored.{number, meet, metFrom, through, met}
 use Rattle.convention.specs.Built.{sameFlags, builtVersion, builtCell, builtRow, builtBody, tableOfStates, buildNo, build}
 use Rattle.cases.specs.Readings.{alongKind, kindByKind, inRounds, kindsThenStates}
@@ -16,14 +16,14 @@ use Rattle.cases.specs.Cases.{simple}
 use Rattle.cases.specs.Examples.{BuildCase, buildCases, tableLength, full, lastStates, numbering, statesFrom}
 
 pub builds-hold : map (λ (c : BuildCase). build stateLimit (c .sheet) tableLength) buildCases ≡ map (λ (c : BuildCase). c .gives) buildCases
-unfolding versionOf headOf headNo openingNo shapeLength stateLength shapeNo shapeOf shapeBytes stateField stateBytes rightCount stackBytes startsNo sheetKindNo sheetKindOf sheetKindsNo sheetKindsOf sheetKindsLength sheetNo sheetOf leastOffset freeRun markRuns leftBefore rulesPlace rulesAfter blocks number meet metFrom through met sameFlags builtVersion builtCell builtRow builtBody tableOfStates buildNo build
+unfolding versionOf headOf headNo openingNo shapeLength stateLength shapeNo shapeOf shapeBytes stateField stateBytes rightCount stackBytes startsNo sheetKindNo sheetKindOf sheetKindsNo sheetKindsOf sheetKindsLength sheetNo sheetOf leastOffset freeRun markRuns skippedBefore rulesPlace rulesAfter blocks number meet metFrom through met sameFlags builtVersion builtCell builtRow builtBody tableOfStates buildNo build
 builds-hold = refl
 
 pub states-hold : statesFrom numbering 4 simple ≡ lastStates
-unfolding versionOf headOf shapeLength shapeOf stackBytes sheetKindOf sheetKindsOf sheetOf leastOffset freeRun markRuns leftBefore rulesPlace rulesAfter number meet metFrom through met sameFlags
+unfolding versionOf headOf shapeLength shapeOf stackBytes sheetKindOf sheetKindsOf sheetOf leastOffset freeRun markRuns skippedBefore rulesPlace rulesAfter number meet metFrom through met sameFlags
 states-hold = refl
 
 -- Numbering by kinds before states, which the example tells apart.
 pub kinds-first-caught : statesFrom kindsThenStates 4 simple ≡ map full (0 ∷ 1 ∷ 2 ∷ 3 ∷ 4 ∷ 5 ∷ 6 ∷ 7 ∷ [])
-unfolding alongKind kindByKind inRounds versionOf headOf shapeLength shapeOf stackBytes sheetKindOf sheetKindsOf sheetOf leastOffset freeRun markRuns leftBefore rulesPlace rulesAfter number meet sameFlags
+unfolding alongKind kindByKind inRounds versionOf headOf shapeLength shapeOf stackBytes sheetKindOf sheetKindsOf sheetOf leastOffset freeRun markRuns skippedBefore rulesPlace rulesAfter number meet sameFlags
 kinds-first-caught = refl

@@ -8,7 +8,7 @@ use Rattle.convention.specs.Sheets.{startsNo, sheetKindNo, sheetKindOf, sheetKi
 use Rattle.convention.specs.Tables.{tableKindsNo, tableKindsOf, transitionNo, transitionsNo, tableNo, tableOf, rowNo, row}
 use Rattle.convention.specs.Offsets.{leastOffset}
 use Rattle.convention.specs.Lists.{faultFrom, stopFrom, stateFrom, placesFrom, recordsOf, unknownAt, placing, placingMemory}
-use Rattle.convention.specs.Rules.{freeRun, markRuns, leftBefore, rulesPlace, rulesAfter, placeByRules, rulesMemory}
+use Rattle.convention.specs.Rules.{freeRun, markRuns, skippedBefore, rulesPlace, rulesAfter, placeByRules, rulesMemory}
 use Rattle.convention.specs.Walked.{tableFault, tableAfter, placeByTable, tableMemory}
 use Rattle.convention.specs.Judged.{eachKind, listsOf, listsUpTo, firstFault, verdictByTrying}
 use Rattle.cases.specs.Readings.{asDefined, skippedGone, forgetsP, eachAlone, stopsAtN, alignmentFirst, lengthOfAll}
@@ -16,18 +16,18 @@ use Rattle.cases.specs.Cases.{Given, byRulesIn, byTableIn, judge, askRow
 use Rattle.cases.specs.Settled.{settled}
 
 pub cases-hold : map (λ (c : Case). comesOf ours (c .given)) cases ≡ map (λ (c : Case). c .says) cases
-unfolding comesOf versionOf headOf headNo openingNo shapeLength stateLength shapeNo shapeOf shapeBytes stateField stateBytes rightCount stackBytes startsNo sheetKindNo sheetKindOf sheetKindsNo sheetKindsOf sheetKindsLength sheetNo sheetOf tableKindsNo tableKindsOf transitionNo transitionsNo tableNo tableOf rowNo row leastOffset faultFrom stopFrom stateFrom placesFrom recordsOf unknownAt placing placingMemory freeRun markRuns leftBefore rulesPlace rulesAfter tableFault tableAfter eachKind listsOf listsUpTo firstFault
+unfolding comesOf versionOf headOf headNo openingNo shapeLength stateLength shapeNo shapeOf shapeBytes stateField stateBytes rightCount stackBytes startsNo sheetKindNo sheetKindOf sheetKindsNo sheetKindsOf sheetKindsLength sheetNo sheetOf tableKindsNo tableKindsOf transitionNo transitionsNo tableNo tableOf rowNo row leastOffset faultFrom stopFrom stateFrom placesFrom recordsOf unknownAt placing placingMemory freeRun markRuns skippedBefore rulesPlace rulesAfter tableFault tableAfter eachKind listsOf listsUpTo firstFault
 cases-hold = refl
 
 pub settled-hold : map (λ (c : Case). comesOf ours (c .given)) settled ≡ map (λ (c : Case). c .says) settled
-unfolding comesOf versionOf headOf headNo openingNo shapeLength stateLength shapeNo shapeOf shapeBytes stateField stateBytes rightCount stackBytes startsNo sheetKindNo sheetKindOf sheetKindsNo sheetKindsOf sheetKindsLength sheetNo sheetOf tableKindsNo tableKindsOf transitionNo transitionsNo tableNo tableOf rowNo row leastOffset faultFrom stopFrom stateFrom placesFrom recordsOf unknownAt placing placingMemory freeRun markRuns leftBefore rulesPlace rulesAfter tableFault tableAfter eachKind listsOf listsUpTo firstFault
+unfolding comesOf versionOf headOf headNo openingNo shapeLength stateLength shapeNo shapeOf shapeBytes stateField stateBytes rightCount stackBytes startsNo sheetKindNo sheetKindOf sheetKindsNo sheetKindsOf sheetKindsLength sheetNo sheetOf tableKindsNo tableKindsOf transitionNo transitionsNo tableNo tableOf rowNo row leastOffset faultFrom stopFrom stateFrom placesFrom recordsOf unknownAt placing placingMemory freeRun markRuns skippedBefore rulesPlace rulesAfter tableFault tableAfter eachKind listsOf listsUpTo firstFault
 settled-hold = refl
 
 -- Misreadings that 01 names, and two others: by which of P1 to P12 each is caught.
 pub misread-caught :
     (failing skippedGone 1 cases ≡ 4 ∷ []) × (failing forgetsP 1 cases ≡ 2 ∷ 3 ∷ 4 ∷ 5 ∷ []) × (failing eachAlone 1 cases ≡ 8 ∷ []) × (failing stopsAtN 1 cases ≡ 8 ∷ [])
     × (failing alignmentFirst 1 cases ≡ 12 ∷ []) × (failing lengthOfAll 1 cases ≡ 1 ∷ 2 ∷ 3 ∷ 4 ∷ 5 ∷ 6 ∷ 7 ∷ [])
-unfolding failing sameBytes comesOf versionOf headOf headNo openingNo shapeLength stateLength shapeNo shapeOf shapeBytes stateField stateBytes rightCount stackBytes startsNo sheetKindNo sheetKindOf sheetKindsNo sheetKindsOf sheetKindsLength sheetNo sheetOf tableKindsNo tableKindsOf transitionNo transitionsNo tableNo tableOf rowNo row leastOffset faultFrom stopFrom stateFrom placesFrom recordsOf unknownAt placing placingMemory freeRun markRuns leftBefore rulesPlace rulesAfter tableFault tableAfter eachKind listsOf listsUpTo firstFault
+unfolding failing sameBytes comesOf versionOf headOf headNo openingNo shapeLength stateLength shapeNo shapeOf shapeBytes stateField stateBytes rightCount stackBytes startsNo sheetKindNo sheetKindOf sheetKindsNo sheetKindsOf sheetKindsLength sheetNo sheetOf tableKindsNo tableKindsOf transitionNo transitionsNo tableNo tableOf rowNo row leastOffset faultFrom stopFrom stateFrom placesFrom recordsOf unknownAt placing placingMemory freeRun markRuns skippedBefore rulesPlace rulesAfter tableFault tableAfter eachKind listsOf listsUpTo firstFault
 misread-caught = (refl, refl, refl, refl, refl, refl)
 
 -- The cases speak of the definitions that the public calls' contracts cite.

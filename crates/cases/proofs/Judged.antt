@@ -5,8 +5,8 @@ use mathlib.Core.List.{List, [], _∷_, map}
 use native.Mathlib.Omega.{arith}
 use lib.ListN.{length}
 use lib.Seq.{take-append-seam}
-use Rattle.convention.specs.declared.Judging.{Judging}
-use Rattle.convention.specs.declared.Judging.the-variants.{Clean, Fault}
+use Rattle.convention.specs.declared.JudgingAnswer.{JudgingAnswer}
+use Rattle.convention.specs.declared.JudgingAnswer.the-variants.{Clean, Fault}
 use Rattle.convention.specs.Numbers.{stateLimit, refusal}
 use Rattle.convention.specs.Tables.{tableNo}
 use Rattle.convention.specs.Judged.{judgeNo, Judges, verdictByTrying}
@@ -30,7 +30,7 @@ refused-as : (t : List ℕ) (number : ℕ) → tableNo stateLimit t ≡ suc numb
 unfolding JudgedAs Judges judgeNo
 refused-as t number read out Clean after room j = absurd (omega (arith, rw read at (j .0)))
 refused-as t number read out (Fault fault n) after room j = absurd (omega (arith, rw read at (j .0)))
-refused-as t number read out (Judging.Refused n) after room j = (ap refusal (sym (rw read at (j .0))), refl)
+refused-as t number read out (JudgingAnswer.Refused n) after room j = (ap refusal (sym (rw read at (j .0))), refl)
 
 -- So whatever comes of a case by the definitions, the judge's contract says of it.
 one-judged : (g : Given) → JudgedAs g (comesOf asDefined g)

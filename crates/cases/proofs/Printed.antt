@@ -5,10 +5,10 @@ use mathlib.Core.Bool.{true}
 use mathlib.Core.List.{List, [], _∷_}
 use native.Mathlib.Omega.{arith}
 use lib.ListN.{length, take, replicate}
-use Rattle.convention.specs.declared.Building.{Building}
-use Rattle.convention.specs.declared.Building.the-variants.{Built}
-use Rattle.convention.specs.declared.Judging.{Judging}
-use Rattle.convention.specs.declared.Judging.the-variants.{Clean}
+use Rattle.convention.specs.declared.BuildingAnswer.{BuildingAnswer}
+use Rattle.convention.specs.declared.BuildingAnswer.the-variants.{Built}
+use Rattle.convention.specs.declared.JudgingAnswer.{JudgingAnswer}
+use Rattle.convention.specs.declared.JudgingAnswer.the-variants.{Clean}
 use Rattle.convention.specs.Numbers.{stateLimit, judgingSays}
 use Rattle.convention.specs.Bytes.{blocks}
 use Rattle.convention.specs.Layout.{shapeLength, stateLength}
@@ -18,7 +18,7 @@ use Rattle.convention.specs.Sheets.{startsNo, sheetKindNo, sheetKindOf, sheetKi
 use Rattle.convention.specs.Tables.{tableKindsOf, tableOf}
 use Rattle.convention.specs.Offsets.{leastOffset}
 use Rattle.convention.specs.Lists.{faultFrom}
-use Rattle.convention.specs.Rules.{freeRun, markRuns, leftBefore, rulesPlace, rulesAfter}
+use Rattle.convention.specs.Rules.{freeRun, markRuns, skippedBefore, rulesPlace, rulesAfter}
 use Rattle.convention.specs.Walked.{tableFault, tableAfter}
 use Rattle.convention.specs.Explored.{number, meet, metFrom, through, met}
 use Rattle.convention.specs.Built.{sameFlags, builtVersion, builtCell, builtRow, builtBody, tableOfStates, builtTable, buildNo, build}
@@ -42,7 +42,7 @@ module _ (s : List ℕ) (few : length s ≤ inputLimit) (n len : ℕ) (built : b
   judged : (out : List ℕ) → judgeRoom table ≤ length out → judgeNo stateLimit table (length out) ≡ 0
   judged out room = judge-passes stateLimit table (length out) (built-readable stateLimit s _ n len built length-said) room
 
-  prints : (verdict : Judging) (before after : List ℕ) → judgeRoom table ≤ length before → Judges stateLimit table before verdict after
+  prints : (verdict : JudgingAnswer) (before after : List ℕ) → judgeRoom table ≤ length before → Judges stateLimit table before verdict after
       → Prints s (line (Built n len) (sheetOf s .head .kinds) verdict (take (judgingSays verdict .count) after))
   prints verdict before after room judges = record {
     building = Built n len;
@@ -65,7 +65,7 @@ record Builds (s : List ℕ) : Type 0 where
   roomy : judgeRoom (builtTable stateLimit (sheetOf s)) ≤ length room
 
 both-built : Builds simple × Builds stacklessDouble
-unfolding tableOf versionOf headOf headNo openingNo shapeLength stateLength shapeNo shapeOf shapeBytes stateField stateBytes rightCount stackBytes startsNo sheetKindNo sheetKindOf sheetKindsNo sheetKindsOf sheetKindsLength sheetNo sheetOf leastOffset freeRun markRuns leftBefore rulesPlace rulesAfter blocks number meet metFrom through met sameFlags builtVersion builtCell builtRow builtBody tableOfStates buildNo build
+unfolding tableOf versionOf headOf headNo openingNo shapeLength stateLength shapeNo shapeOf shapeBytes stateField stateBytes rightCount stackBytes startsNo sheetKindNo sheetKindOf sheetKindsNo sheetKindsOf sheetKindsLength sheetNo sheetOf leastOffset freeRun markRuns skippedBefore rulesPlace rulesAfter blocks number meet metFrom through met sameFlags builtVersion builtCell builtRow builtBody tableOfStates buildNo build
 both-built = (record { built = refl; roomy = omega arith }, record { built = refl; roomy = omega arith })
 
 -- Every kind of S may use the stack, so its table is clean.
@@ -90,7 +90,7 @@ simple-prints =
 
 -- The other table's verdict is the first that is found by trying.
 pub stackless-prints : Prints stacklessDouble faultLine
-unfolding tableKindsOf tableOf faultFrom tableFault tableAfter eachKind listsOf listsUpTo firstFault verdictByTrying digitsIn decimal kindFields verdictFields line versionOf headOf headNo openingNo shapeLength stateLength shapeNo shapeOf shapeBytes stateField stateBytes rightCount stackBytes startsNo sheetKindNo sheetKindOf sheetKindsNo sheetKindsOf sheetKindsLength sheetNo sheetOf leastOffset freeRun markRuns leftBefore rulesPlace rulesAfter blocks number meet metFrom through met sameFlags builtVersion builtCell builtRow builtBody tableOfStates buildNo build
+unfolding tableKindsOf tableOf faultFrom tableFault tableAfter eachKind listsOf listsUpTo firstFault verdictByTrying digitsIn decimal kindFields verdictFields line versionOf headOf headNo openingNo shapeLength stateLength shapeNo shapeOf shapeBytes stateField stateBytes rightCount stackBytes startsNo sheetKindNo sheetKindOf sheetKindsNo sheetKindsOf sheetKindsLength sheetNo sheetOf leastOffset freeRun markRuns skippedBefore rulesPlace rulesAfter blocks number meet metFrom through met sameFlags builtVersion builtCell builtRow builtBody tableOfStates buildNo build
 stackless-prints =
     let built = both-built .1 .built in
     let roomy = both-built .1 .roomy in
@@ -101,9 +101,9 @@ stackless-prints =
 pub refused-prints : Prints (0x00 ∷ []) refusedOne
 unfolding openingNo sheetNo buildNo build digitsIn decimal refusedLine line
 refused-prints =
-    let none : (n len : ℕ) → Building.Refused 1 ≡ Built n len → ⊥ = λ n len e. let z : _≡_ {A = ℕ} 0 1 = cc in omega arith in
+    let none : (n len : ℕ) → BuildingAnswer.Refused 1 ≡ Built n len → ⊥ = λ n len e. let z : _≡_ {A = ℕ} 0 1 = cc in omega arith in
     record {
-      building = Building.Refused 1;
+      building = BuildingAnswer.Refused 1;
       verdict = Clean;
       before = [];
       after = [];

@@ -114,8 +114,8 @@ placed count p bytes = record { said = record { number = 0; fault = 0; count = c
 abbrev pub refused : ℕ → ℕ → ℕ → List ℕ → Outcome
 refused number position fault lent = record { said = record { number = number; fault = fault; count = position; value = 0 }; bytes = lent }
 
-abbrev pub clean : Outcome
-clean = record { said = record { number = 0; fault = 0; count = 0; value = 0 }; bytes = [] }
+abbrev pub cleanOutcome : Outcome
+cleanOutcome = record { said = record { number = 0; fault = 0; count = 0; value = 0 }; bytes = [] }
 
 abbrev pub goesWrong : ℕ → List ℕ → Outcome
 goesWrong fault list = record { said = record { number = 0; fault = fault; count = length list; value = 0 }; bytes = list }
@@ -142,7 +142,7 @@ cases =
     ∷ (place stacklessDouble (char ∷ double ∷ double ∷ []) ⟹ refused 10 2 1 (lentFor (char ∷ double ∷ double ∷ [])))
     ∷ (place evenDouble (int ∷ double ∷ int ∷ []) ⟹ placed 3 4 (inRegisters 0 1 ++ (inRegisters 2 2 ++ onStack 0 4)))
     ∷ (judge (oneTransition 1 0 1 0) ⟹ goesWrong 2 (0 ∷ 0 ∷ []))
-    ∷ (judge (oneTransition 2 0 4 0) ⟹ clean)
+    ∷ (judge (oneTransition 2 0 4 0) ⟹ cleanOutcome)
     ∷ (judge (oneTransition 2 0 3 0) ⟹ goesWrong 3 (0 ∷ []))
     ∷ (judge (oneTransition 2 2 4 0) ⟹ goesWrong 4 (0 ∷ []))
     ∷ (judge (oneTransition 2 2 3 0) ⟹ goesWrong 3 (0 ∷ []))

@@ -4,8 +4,8 @@ use Prim.Native.Nat.{ℕ}
 use mathlib.Core.List.{List, [], _∷_, _++_, map}
 use mathlib.Core.Bool.{true, false}
 use lib.ListN.{drop, replicate}
-use Rattle.convention.specs.declared.Building.{Building}
-use Rattle.convention.specs.declared.Building.the-variants.{Built}
+use Rattle.convention.specs.declared.BuildingAnswer.{BuildingAnswer}
+use Rattle.convention.specs.declared.BuildingAnswer.the-variants.{Built}
 use Rattle.convention.specs.declared.Allocation.{Allocation}
 use Rattle.convention.specs.Sheets.{sheetOf}
 use Rattle.convention.specs.Explored.{Automaton, Entry}
@@ -20,19 +20,19 @@ tableLength = 158
 -- What building gives: N and the table's length, or the number.
 pub record BuildCase : Type 0 where
   pub sheet : List ℕ
-  pub gives : Building
+  pub gives : BuildingAnswer
 
 infix 5 _builds_
-abbrev pub _builds_ : List ℕ → Building → BuildCase
+abbrev pub _builds_ : List ℕ → BuildingAnswer → BuildCase
 _builds_ sheet gives = record { sheet = sheet; gives = gives }
 
 abbrev pub buildCases : List BuildCase
 buildCases =
     (simple builds Built 12 tableLength)
     ∷ (stacklessDouble builds Built 12 tableLength)
-    ∷ ((0x00 ∷ []) builds Building.Refused 1)
-    ∷ ((0x00 ∷ 0x00 ∷ []) builds Building.Refused 3)
-    ∷ ((0x00 ∷ 0x01 ∷ 0x02 ∷ []) builds Building.Refused 2)
+    ∷ ((0x00 ∷ []) builds BuildingAnswer.Refused 1)
+    ∷ ((0x00 ∷ 0x00 ∷ []) builds BuildingAnswer.Refused 3)
+    ∷ ((0x00 ∷ 0x01 ∷ 0x02 ∷ []) builds BuildingAnswer.Refused 2)
     ∷ []
 
 -- 'States 4 to 11 have no register free and remainders 0, 1, 4, 2, 5, 3, 6, 7.' S has four registers.

@@ -3,7 +3,7 @@ use Prim.Native.Nat.{ℕ, _≤_}
 use mathlib.Core.Path.{_≡_}
 use mathlib.Core.List.{List, [], _∷_}
 use lib.ListN.{length, take}
-use Rattle.convention.specs.declared.Judging.{Judging}
+use Rattle.convention.specs.declared.JudgingAnswer.{JudgingAnswer}
 use Rattle.convention.specs.Numbers.{stateLimit, judgingSays}
 use Rattle.convention.specs.Judged.{judgeRoom, Judges}
 use Rattle.cases.specs.Cases.{Given, byRulesIn, byTableIn, judge, askRow, Outcome, Case}
@@ -13,7 +13,7 @@ unfoldable pub JudgedAs : Given → Outcome → Type 0
 JudgedAs (byRulesIn s ks lent) says = Unit {0}
 JudgedAs (byTableIn t ks lent) says = Unit {0}
 JudgedAs (judge t) says =
-    (out : List ℕ) (answer : Judging) (after : List ℕ) → judgeRoom t ≤ length out → Judges stateLimit t out answer after
+    (out : List ℕ) (answer : JudgingAnswer) (after : List ℕ) → judgeRoom t ≤ length out → Judges stateLimit t out answer after
     → (judgingSays answer ≡ says .said) × (take (length (says .bytes)) after ≡ says .bytes)
 JudgedAs (askRow t state) says = Unit {0}
 

@@ -26,7 +26,7 @@ pub record Reader : Type 1 where
   pub table : Table → List ℕ → Steps
   pub hunted : List ℕ → ℕ
 
--- A way of placing with another state behind a step, and with another fault.
+-- A way of placing with another state after a step, and with another fault.
 abbrev pub withAfter : (M : Steps) → (M .State → ℕ → M .State) → Steps
 withAfter M after = record { State = M .State; begin = M .begin; place = M .place; fault = M .fault; after = after; p = M .p }
 

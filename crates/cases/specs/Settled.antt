@@ -3,7 +3,7 @@ use Prim.Native.Nat.{ℕ}
 use mathlib.Core.List.{List, [], _∷_, _++_}
 use lib.ListN.{replicate}
 use Rattle.convention.specs.Numbers.{refusal}
-use Rattle.cases.specs.Cases.{byRulesIn, byTableIn, askRow, judge, place, lentFor, refused, clean, simple, stacklessDouble, oneTransition, char, int, double, Case, _⟹_}
+use Rattle.cases.specs.Cases.{byRulesIn, byTableIn, askRow, judge, place, lentFor, refused, cleanOutcome, simple, stacklessDouble, oneTransition, char, int, double, Case, _⟹_}
 
 -- A kind that S does not have.
 abbrev pub unknown : ℕ
@@ -34,7 +34,7 @@ deadRow = 0x00 ∷ 0x10 ∷ 0x01 ∷ 0x01 ∷ 0x04 ∷ 0x04 ∷ 0x01 ∷ 0x04 �
 
 abbrev pub settled : List Case
 settled =
-    -- 'placing: 8, 12, 9, 10': each before those behind it.
+    -- 'placing: 8, 12, 9, 10': each before those after it.
     (byRulesIn simple tooMany [] ⟹ refused 8 0 0 [])
     ∷ (byRulesIn stacklessDouble bothWrong (255 ∷ []) ⟹ refused 12 0 0 (255 ∷ []))
     -- 'so that 9 anywhere in the list comes before 10'.
@@ -47,7 +47,7 @@ settled =
     ∷ (byTableIn wrongForm [] [] ⟹ refused 7 0 0 [])
     ∷ (byTableIn wrongFormCut [] [] ⟹ refused 3 0 0 [])
     -- 'Condemning a table for a bad row that no list reaches' is a misreading.
-    ∷ (judge deadRow ⟹ clean)
+    ∷ (judge deadRow ⟹ cleanOutcome)
     -- Number 13, with the empty part; and the row of the one state that there is.
     ∷ (askRow (oneTransition 2 0 4 0) 1 ⟹ refused 13 0 0 [])
     ∷ (askRow (oneTransition 2 0 4 0) 0 ⟹ record { said = refusal 0; bytes = 2 ∷ 0 ∷ 4 ∷ 0 ∷ [] })

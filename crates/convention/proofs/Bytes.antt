@@ -1,12 +1,12 @@
--- Laws of bytes: big-endian bytes read back, what memory holds once bytes were written, and blocks of one length laid one behind the other.
+-- Laws of bytes: big-endian bytes read back, what memory holds once bytes were written, and blocks of one length laid one after the other.
 use Prim.Native.Nat.{ℕ, zero, suc, _+_, _*_, _/_, _%_, _^_, _≤_, _<_}
 use mathlib.Core.Path.{_≡_, sym, _∙_}
 use mathlib.Core.Logic.{_⊎_, inl, inr}
 use mathlib.Core.List.{List, [], _∷_, _++_, append-assoc}
 use native.Mathlib.Nat.{add-zero, add-assoc, mul-le-mul-left, div-div-eq-div-mul, eq-or-lt-of-le, le-of-suc-le-suc}
 use native.Mathlib.Omega.{arith}
-use lib.ListN.{length, getD, set, take, drop, length-append, length-take, length-drop, take-append-drop}
-use lib.Seq.{length-take-le, take-all, take-append-seam, drop-append-seam, take-append-le, drop-append-le, getD-take, getD-drop, drop-drop, take-add}
+use lib.ListN.{length, set, take, drop, length-append, length-take, length-drop, take-append-drop}
+use lib.Seq.{length-take-le, take-all, take-append-seam, drop-append-seam, take-append-le, drop-append-le, drop-drop, take-add}
 use lib.Seq.{take-at, drop-at, sets, sets-eq}
 use Rattle.convention.specs.Bytes.{twoBytes, written, blocks}
 use Rattle.convention.specs.Fields.{lengthField}
@@ -38,7 +38,7 @@ pub written-one : (d : List ℕ) (at b : ℕ) → at < length d → set d at b �
 written-one d at b h = written-sets d at (b ∷ []) (omega arith)
 
 module _ (d : List ℕ) (at : ℕ) (bs : List ℕ) (h : at ≤ length d) where
-  -- What stands before `at`, from there on, in the part that was written, and behind it.
+  -- What stands before `at`, from there on, in the part that was written, and after it.
   pub take-written : take at (written d at bs) ≡ take at d
   take-written = take-at (take at d) _ at (length-take-le at d h)
 
@@ -51,7 +51,7 @@ module _ (d : List ℕ) (at : ℕ) (bs : List ℕ) (h : at ≤ length d) where
   pub drop-written : drop (at + length bs) (written d at bs) ≡ drop (at + length bs) d
   drop-written = sym (drop-drop (length bs) at (written d at bs)) ∙ rw from-written (drop-append-seam bs _)
 
-  -- One more run, written right behind.
+  -- One more run, written right after it.
   pub written-more : (cs : List ℕ) → written (written d at bs) (at + length bs) cs ≡ written d at (bs ++ cs)
   written-more cs =
       let w = written d at bs in
@@ -94,10 +94,6 @@ block-in f w n wide rest i h =
       take-append-le w (drop (w * i) (blocks f n)) rest (rw (length-drop, len) (omega arith)),
     )
     (block-at f w n wide i h)
-
-pub getD-block : (f : ℕ → List ℕ) (w n : ℕ) → ((i : ℕ) → i < n → length (f i) ≡ w)
-    → (i j d : ℕ) → i < n → j < w → getD (blocks f n) (w * i + j) d ≡ getD (f i) j d
-getD-block f w n wide i j d h k = rw (← block-at f w n wide i h, getD-take, getD-drop)
 
 -- One more block of a run.
 pub written-block : (d : List ℕ) (at : ℕ) (f : ℕ → List ℕ) (w n : ℕ) → ((i : ℕ) → i < n → length (f i) ≡ w) → at ≤ length d

@@ -1,7 +1,7 @@
 -- Laws of what both readers read: fields and kinds one after the other, the length, the version, the head and a kind's shape. What is promised where the number is 0;
 -- and the other way round, that no number is given where the bytes are there and have the values that are promised of them.
 use Prim.Native.Nat.{ℕ, zero, suc, _+_, _-_, _*_, _≤_, _<_}
-use mathlib.Core.Path.{_≡_, refl, sym, ap, _∙_}
+use mathlib.Core.Path.{_≡_, sym, ap, _∙_}
 use mathlib.Core.Bool.{true, and-eq-true-iff}
 use mathlib.Core.List.{List, [], _∷_, _++_}
 use native.Mathlib.Nat.{add-zero, mul-zero}
@@ -11,10 +11,9 @@ use lib.ListN.{length, getD, drop, replicate, length-append, length-replicate}
 use lib.Seq.{drop-drop}
 use borrow.Author.Tests.{leb-true, le-leb}
 use Rattle.convention.specs.declared.Head.{Head}
-use Rattle.convention.specs.declared.Shape.{Shape}
 use Rattle.convention.specs.Numbers.{orElse}
 use Rattle.convention.specs.Layout.{versionAt, registersAt, widthAt, modulusAt, kindsCountAt, kindsAt, sizeAt, alignmentAt, shapeLength}
-use Rattle.convention.specs.Fields.{fieldNo, lengthNo, versionOf, isVersion, versionNo, headOf, headNo, openingNo, shapeNo, shapeOf}
+use Rattle.convention.specs.Fields.{lengthNo, versionOf, isVersion, versionNo, headOf, headNo, openingNo, shapeNo, shapeOf}
 use Rattle.convention.specs.Promised.{HeadRead, ShapeRead}
 use Rattle.convention.proofs.Numbers.{or-zero, or-on, field-zero, field-pass}
 

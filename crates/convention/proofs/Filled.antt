@@ -1,4 +1,4 @@
--- A loop that fills an array from the front, over any element: after i turns it holds the first i values and the blank behind them.
+-- A loop that fills an array from the front, over any element: after i turns it holds the first i values and the blank after them.
 use Prim.Native.Nat.{ℕ, suc, _+_, _-_, _≤_, _<_}
 use mathlib.Core.Path.{_≡_}
 use mathlib.Core.List.{List, _++_, append-assoc}
@@ -8,7 +8,7 @@ use lib.ListN.{length, getD, take, set, replicate}
 use lib.Seq.{take-suc, set-at, length-take-le}
 
 module _ {A : Type 0} (l : List A) (n : ℕ) (z : A) where
-  -- The first i of l, and the blank z behind them, n in all.
+  -- The first i of l, and the blank z after them, n in all.
   abbrev pub filled : ℕ → List A
   filled i = take i l ++ replicate (n - i) z
 

@@ -1,4 +1,4 @@
--- Tests of things that stand one behind the other, each where the one before it ends: the readers' loops over kinds, starts and transitions.
+-- Tests of things that stand one after the other, each where the one before it ends: the readers' loops over kinds, starts and transitions.
 use Prim.Native.Nat.{ℕ, zero, suc, _+_, _-_, _*_, _≤_, _<_}
 use mathlib.Core.Path.{_≡_, sym, _∙_}
 use native.Mathlib.Nat.{add-zero, mul-zero}

@@ -9,6 +9,7 @@ pub mod Lists
 pub mod Sheets
 pub mod Filled
 pub mod Tables
+pub mod Promised
 pub mod Shortlex
 pub mod Pigeonhole
 pub mod Numbering

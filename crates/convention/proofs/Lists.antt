@@ -1,4 +1,4 @@
--- Laws of lists of kinds: a walk position by position, as a loop takes it; where it stops; two lists one behind the other; records; known kinds.
+-- Laws of lists of kinds: a walk position by position, as a loop takes it; where it stops; two lists one after the other; records; known kinds.
 use Prim.Native.Nat.{ℕ, zero, suc, _+_, _*_, _≤_, _<_}
 use mathlib.Core.Path.{_≡_, refl, sym, ap}
 use mathlib.Core.Logic.{inl, inr}
@@ -13,7 +13,7 @@ use borrow.Author.Tests.{lt-ltb, le-ltb}
 use Rattle.convention.specs.declared.Placement.{Placement}
 use Rattle.convention.specs.declared.Placement.the-variants.{Nowhere}
 use Rattle.convention.specs.Numbers.{orElse}
-use Rattle.convention.specs.Lists.{Steps, faultFrom, stopFrom, stateFrom, placesFrom, recordOf, recordsOf, unknownAt, KindsBelow}
+use Rattle.convention.specs.Lists.{Steps, faultFrom, stopFrom, stateFrom, placesFrom, recordLength, recordOf, recordsOf, unknownAt, KindsBelow}
 use Rattle.convention.proofs.Numbers.{or-zero, or-here, or-assoc, or-keeps}
 
 -- What is left of a list at a position of it.
@@ -22,7 +22,7 @@ rest ks i h = rw (add-one, drop-cons ks i 0)
 
 -- A walk that has come to position i in state s.
 module _ (M : Steps) (s : M .State) (ks : List ℕ) (i : ℕ) where
-  -- Behind the last argument nothing is left of it.
+  -- After the last argument nothing is left of it.
   pub fault-end : length ks ≤ i → faultFrom M s (drop i ks) ≡ 0
   unfolding faultFrom
   fault-end h = rw (drop-of-length-le ks h)
@@ -35,7 +35,7 @@ module _ (M : Steps) (s : M .State) (ks : List ℕ) (i : ℕ) where
   unfolding stateFrom
   state-end h = rw (drop-of-length-le ks h)
 
-  -- An argument without a fault: fault and stop are those of the walk behind it.
+  -- An argument without a fault: fault and stop are those of the walk after it.
   pub fault-turn : i < length ks → M .fault s (getD ks i 0) ≡ 0
       → faultFrom M s (drop i ks) ≡ faultFrom M (M .after s (getD ks i 0)) (drop (i + 1) ks)
   unfolding faultFrom
@@ -82,7 +82,7 @@ module _ (M : Steps) where
         | inr f ↦ omega (arith, stop-hit M s (k ∷ ks) 0 (omega arith) f)
       ]
 
-  -- What every step without a fault keeps holds behind a list without a fault.
+  -- What every step without a fault keeps holds after a list without a fault.
   pub holds-along : (P : M .State → Type 0) (m : ℕ) → ((s : M .State) (k : ℕ) → P s → k < m → M .fault s k ≡ 0 → P (M .after s k))
       → (s : M .State) (ks : List ℕ) → P s → KindsBelow m ks → faultFrom M s ks ≡ 0 → P (stateFrom M s ks)
   unfolding faultFrom stateFrom KindsBelow
@@ -117,20 +117,20 @@ module _ (M : Steps) where
   places-length s [] = refl
   places-length s (k ∷ ks) = ap suc (places-length (M .after s k) ks)
 
-pub records-length : (places : List Placement) → length (recordsOf places) ≡ 6 * length places
+pub records-length : (places : List Placement) → length (recordsOf places) ≡ recordLength * length places
 unfolding recordsOf
 records-length [] = refl
 records-length (place ∷ places) = rw (records-length places) (omega arith)
 
--- The record of place i stands behind those of the places before it.
+-- The record of place i stands after those of the places before it.
 pub record-at : (places : List Placement) (others : List ℕ) (i : ℕ) → i < length places
-    → take 6 (drop (6 * i) (recordsOf places ++ others)) ≡ recordOf (getD places i Nowhere)
+    → take recordLength (drop (recordLength * i) (recordsOf places ++ others)) ≡ recordOf (getD places i Nowhere)
 unfolding recordsOf
 record-at [] others i h = absurd (omega arith)
 record-at (place ∷ places) others zero h = refl
 record-at (place ∷ places) others (suc i) h =
-    let more : 6 * suc i ≡ 6 + 6 * i = omega arith in
-    rw (more, ← drop-drop (6 * i) 6 (recordOf place ++ (recordsOf places ++ others))) (record-at places others i (le-of-suc-le-suc h))
+    let more : recordLength * suc i ≡ recordLength + recordLength * i = omega arith in
+    rw (more, ← drop-drop (recordLength * i) recordLength (recordOf place ++ (recordsOf places ++ others))) (record-at places others i (le-of-suc-le-suc h))
 
 -- Looking for a kind of m or more, from position i on: nothing is left; kind i is known; kind i is not.
 module _ (m : ℕ) (ks : List ℕ) (i : ℕ) where

@@ -1,10 +1,10 @@
 -- Laws of the least offset, for every modulus at once; and of the widths and moduli that a head may have.
-use Prim.Native.Nat.{ℕ, _+_, _-_, _*_, _/_, _%_, _≤_, _<_, _∣_}
+use Prim.Native.Nat.{ℕ, _+_, _-_, _/_, _%_, _≤_, _<_, _∣_}
 use mathlib.Core.Path.{_≡_, refl, sym, subst, _∙_}
 use mathlib.Core.Bool.{Bool, true, false, not, _&&_, _||_, and-eq-true-iff}
-use native.Mathlib.Nat.{le-refl, le-antisymm, le-of-suc-le-suc, lt-of-not-le, not-le-of-lt, le-mul-of-pos-right}
+use native.Mathlib.Nat.{le-refl, le-antisymm, le-of-suc-le-suc, lt-of-not-le, not-le-of-lt}
 use native.Mathlib.Nat.{mod-lt, mod-eq-of-lt, mod-add-mod, add-mod-mod, add-mod-left, mod-mod-of-dvd}
-use native.Mathlib.Nat.{div-add-mod, lt-div-mul-add, div-lt-iff-lt-mul, dvd-mul-right, dvd-sub, le-of-dvd, dvd-of-mod-eq-zero}
+use native.Mathlib.Nat.{div-add-mod, dvd-mul-right, dvd-sub, le-of-dvd, dvd-of-mod-eq-zero}
 use native.Mathlib.Omega.{arith}
 use lib.Dec.{ltb, leb, eqb}
 use borrow.Author.Tests.{ltb-true, leb-true, le-leb, eqb-true}
@@ -51,8 +51,8 @@ least-unique a b = le-antisymm (a .least _ (b .at-least) (b .remainder)) (b .lea
 pub least-here : (m r p : ℕ) → 0 < m → p % m ≡ r → leastOffset m r p ≡ p
 least-here m r p h e = least-unique (least-is m r p (rw e at (mod-lt p h))) (near-least (le-refl p) (omega arith) e)
 
-pub least-on : (m r p : ℕ) → r < m → (p % m ≡ r → ⊥) → leastOffset m r (p + 1) ≡ leastOffset m r p
-least-on m r p h other =
+pub least-further : (m r p : ℕ) → r < m → (p % m ≡ r → ⊥) → leastOffset m r (p + 1) ≡ leastOffset m r p
+least-further m r p h other =
     let same = least-is m r p h .remainder in
     let moved : leastOffset m r p ≡ p → ⊥ = λ e. other (rw e at same) in
     least-unique (least-is m r (p + 1) h)
@@ -64,7 +64,7 @@ aligned-residue a A p h k d =
     least-unique (least-is A (leastOffset a 0 p % A) p (mod-lt (leastOffset a 0 p) k))
     (near-least (least-ge a 0 p) (omega (arith, least-lt a 0 p h, le-of-dvd k d)) refl)
 
--- The rules' step taken at p's remainder by A: the offset, and what lies a size behind it, have the remainders that they have at p.
+-- The rules' step taken at p's remainder by A: the offset, and what lies a size after it, have the remainders that they have at p.
 pub shift-mod : (a A p : ℕ) → a ∣ A → leastOffset a 0 (p % A) % A ≡ leastOffset a 0 p % A
 unfolding leastOffset
 shift-mod a A p d = rw (mod-mod-of-dvd a p d) (mod-add-mod p A _)

@@ -16,7 +16,7 @@ use Rattle.convention.specs.Numbers.{stateLimit}
 use Rattle.convention.specs.Fields.{shapeOf, shapeBytes, stateField, stateBytes}
 use Rattle.convention.specs.Tables.{transitionOf, transitionBytes}
 
--- A shape's fields lie within it, and its length and that of a state's number can be said in a byte.
+-- A shape's fields lie within it, and its length can be said in a byte; a state's number takes some.
 pub shape-some : (v : ℕ) → alignmentAt < shapeLength v
 unfolding shapeLength
 shape-some v = omega arith
@@ -28,10 +28,6 @@ shape-small v = omega arith
 pub state-some : (v : ℕ) → 0 < stateLength v
 unfolding stateLength
 state-some v = omega arith
-
-pub state-small : (v : ℕ) → stateLength v ≤ 252
-unfolding stateLength
-state-small v = omega arith
 
 -- A shape's bytes: how many, that they say the shape, and that nothing after them matters.
 pub shape-wide : (v : ℕ) (shape : Shape) → length (shapeBytes v shape) ≡ shapeLength v

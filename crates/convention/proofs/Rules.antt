@@ -10,11 +10,11 @@ use Rattle.convention.specs.declared.Placement.{Placement}
 use Rattle.convention.specs.declared.Placement.the-variants.{Registers, Stack, Nowhere}
 use Rattle.convention.specs.Shapes.{stackBytes}
 use Rattle.convention.specs.Sheets.{mayUseStack}
-use Rattle.convention.specs.Rules.{leftOf, startsOf, needed, fits, startTaken, stackOffset, rulesPlace}
+use Rattle.convention.specs.Rules.{skippedOf, startsOf, needed, fits, startTaken, stackOffset, rulesPlace}
 
 -- What holds of registers from a start that fits, of the stack where it is allowed, and of nowhere holds of the place by the rules, as it hangs on p.
 pub place-cases : (w : ℕ) (k : SheetKind) (taken : List Bool) (P : (ℕ → Placement) → Type 0)
-    → (leftOf w k taken < length (startsOf k) → P (λ p. Registers (record { 0 = startTaken w k taken }) (needed w k)))
+    → (skippedOf w k taken < length (startsOf k) → P (λ p. Registers (record { 0 = startTaken w k taken }) (needed w k)))
     → (mayUseStack k ≡ true → P (λ p. Stack (record { 0 = stackOffset k p }) (stackBytes (k .shape))))
     → (mayUseStack k ≡ false → P (λ p. Nowhere))
     → P (λ p. rulesPlace w k (record { unavailable = taken; p = record { 0 = p } }))

@@ -1,6 +1,6 @@
 -- Laws of reading a sheet: what is promised where its number is 0, and where its kinds and their starts stand.
 use Prim.Native.Nat.{ℕ, zero, suc, _+_, _*_, _≤_, _<_}
-use mathlib.Core.Path.{_≡_, refl, sym, _∙_}
+use mathlib.Core.Path.{_≡_, refl, _∙_}
 use mathlib.Core.Bool.{true}
 use mathlib.Core.List.{List}
 use native.Mathlib.Nat.{add-assoc, one-mul, le-refl, mul-le-mul-left}
@@ -63,14 +63,14 @@ module _ (v : ℕ) (h : Head) (s : List ℕ) (e : sheetKindNo v h s ≡ 0) where
       }
 
   -- The bytes before the starts are there, there are at most sixteen starts, and they are there.
-  pub kind-there : startsAt v ≤ length s
-  kind-there = kind-tests .there
+  pub starts-there : startsAt v ≤ length s
+  starts-there = kind-tests .there
 
   pub kind-tries : getD s (triesAt v) 0 ≤ 16
   kind-tries = kind-tests .tries
 
   pub kind-length : sheetKindLength v s ≤ length s
-  kind-length = starts-end _ _ s (startsAt v) _ (kind-tests .starts) kind-there
+  kind-length = starts-end _ _ s (startsAt v) _ (kind-tests .starts) starts-there
 
   -- The kind has the values that 01 allows.
   pub kind-read : SheetKindRead h (sheetKindOf v s)
@@ -100,12 +100,12 @@ kinds-read v h =
     after-read (sheetKindLength v) (sheetKindOf v) (sheetKindsOf v) (λ s. refl) (λ s left. refl)
     (sheetKindNo v h) (sheetKindsNo v h) (λ s left. refl) (SheetKindRead h) (kind-read v h)
 
-pub kinds-end : (v : ℕ) (h : Head) (s : List ℕ) (left : ℕ) → sheetKindsNo v h s left ≡ 0 → sheetKindsLength v s left ≤ length s
+pub kinds-within : (v : ℕ) (h : Head) (s : List ℕ) (left : ℕ) → sheetKindsNo v h s left ≡ 0 → sheetKindsLength v s left ≤ length s
 unfolding sheetKindsNo sheetKindsLength
-kinds-end v h s zero e = omega arith
-kinds-end v h s (suc left) e =
+kinds-within v h s zero e = omega arith
+kinds-within v h s (suc left) e =
     let both = or-zero (sheetKindNo v h s) _ e in
-    omega (arith, kind-length v h s (both .0), rw length-drop at (kinds-end v h (drop (sheetKindLength v s) s) left (both .1)))
+    omega (arith, kind-length v h s (both .0), rw length-drop at (kinds-within v h (drop (sheetKindLength v s) s) left (both .1)))
 
 kinds-most : (v : ℕ) (h : Head) (s : List ℕ) (left : ℕ) → sheetKindsNo v h s left ≡ 0 → sheetKindsLength v s left ≤ sheetKindMost v * left
 unfolding sheetKindsNo sheetKindsLength
@@ -178,7 +178,7 @@ module _ (s : List ℕ) (e : sheetNo s ≡ 0) where
   -- Its bytes end where its last kind does, and are no more than the longest sheet's.
   pub sheet-whole : length s ≡ sheetKindAt (versionOf s) s (headOf s .kinds)
   sheet-whole =
-      let kinds = kinds-end v h (drop kindsAt s) (h .kinds) (sheet-tests .kinds) in
+      let kinds = kinds-within v h (drop kindsAt s) (h .kinds) (sheet-tests .kinds) in
       omega (arith, sheet-tests .end, head-there s (sheet-tests .head), rw length-drop at kinds)
 
   sheet-short : length s ≤ longestSheet v
@@ -190,7 +190,7 @@ module _ (s : List ℕ) (e : sheetNo s ≡ 0) where
   pub kind-within : (k : ℕ) → k ≤ headOf s .kinds → sheetKindAt (versionOf s) s k ≤ length s
   kind-within k l =
       let right = kinds-first v h (drop kindsAt s) (h .kinds) k (sheet-tests .kinds) l in
-      omega (arith, head-there s (sheet-tests .head), rw length-drop at (kinds-end v h (drop kindsAt s) k right))
+      omega (arith, head-there s (sheet-tests .head), rw length-drop at (kinds-within v h (drop kindsAt s) k right))
 
   module _ (k : ℕ) (l : k < headOf s .kinds) where
     -- A kind is read from where it stands.

@@ -6,20 +6,20 @@ use lib.Dec.{leb, eqb}
 use lib.ListN.{length, drop}
 use Rattle.convention.specs.declared.Placement.{Placement}
 use Rattle.convention.specs.declared.Transition.{Transition}
-use Rattle.convention.specs.declared.Spelling.{Spelling}
+use Rattle.convention.specs.declared.PlacementParts.{PlacementParts}
 use Rattle.convention.specs.declared.Sheet.{Sheet}
 use Rattle.convention.specs.declared.Transition.{Transition}
 use Rattle.convention.specs.declared.Allocation.{Allocation}
 use Rattle.convention.specs.declared.ByRules.{ByRules}
-use Rattle.convention.specs.declared.Building.{Building}
-use Rattle.convention.specs.declared.Building.the-variants.{Built}
+use Rattle.convention.specs.declared.BuildingAnswer.{BuildingAnswer}
+use Rattle.convention.specs.declared.BuildingAnswer.the-variants.{Built}
 use Rattle.convention.specs.Numbers.{orElse, unless}
 use Rattle.convention.specs.Bytes.{twoBytes, blocks}
 use Rattle.convention.specs.Layout.{longestTable}
 use Rattle.convention.specs.Fields.{shapeBytes, stateBytes}
 use Rattle.convention.specs.Sheets.{sheetKind, sheetNo, sheetOf}
 use Rattle.convention.specs.Tables.{transitionBytes}
-use Rattle.convention.specs.Lists.{spelled}
+use Rattle.convention.specs.Lists.{partsOf}
 use Rattle.convention.specs.Rules.{noRegisters, byRules}
 use Rattle.convention.specs.Explored.{Automaton, Entry, entry, number, met}
 
@@ -53,16 +53,16 @@ allocations sheet = record {
 }
 
 -- 'form 2, stack: a is the residue', the offset's remainder by A; otherwise it is the number as it stands.
-abbrev pub fieldA : ℕ → Spelling → ℕ
-fieldA modulus told = cond (eqb (told .form) 2) (told .number % modulus) (told .number)
+abbrev pub fieldA : ℕ → PlacementParts → ℕ
+fieldA modulus parts = cond (eqb (parts .form) 2) (parts .number % modulus) (parts .number)
 
 -- The transition made of a place and the next state's number. 'form 0, no place: a, b and next are 0.'
 abbrev pub made : ℕ → Placement → ℕ → Transition
 made modulus place next = record {
-  form = spelled place .form;
-  a = fieldA modulus (spelled place);
-  b = spelled place .count;
-  next = unless (eqb (spelled place .form) 0) next;
+  form = partsOf place .form;
+  a = fieldA modulus (partsOf place);
+  b = partsOf place .count;
+  next = unless (eqb (partsOf place .form) 0) next;
 }
 
 -- Where kind k goes from an allocation state; l holds the states met.
@@ -96,11 +96,11 @@ builtBody sheet l =
     ∷ (blocks (builtKind sheet) (sheet .head .kinds) ++ (stateBytes (builtVersion sheet) (length l) ++ blocks (builtRow sheet l) (length l)))
 
 -- The table whose states are the entries of l.
-abbrev pub behindLength : List ℕ → List ℕ
-behindLength body = twoBytes (length body) ++ body
+abbrev pub afterLength : List ℕ → List ℕ
+afterLength body = twoBytes (length body) ++ body
 
 unfoldable pub tableOfStates : (sheet : Sheet) → List (Entry (allocations sheet)) → List ℕ
-tableOfStates sheet l = behindLength (builtBody sheet l)
+tableOfStates sheet l = afterLength (builtBody sheet l)
 
 -- 'Only states that some list of kinds reaches by the rules count': all of them, where there are no more than the limit.
 abbrev pub builtStates : ℕ → (sheet : Sheet) → List (Entry (allocations sheet))
@@ -114,18 +114,18 @@ builtTable limit sheet = tableOfStates sheet (builtStates limit sheet)
 abbrev pub statesNumber : ℕ → Sheet → ℕ
 statesNumber limit sheet = unless (leb (length (builtStates limit sheet)) limit) 11
 
--- 'Building: 11, 12', behind the number that reading the sheet gave.
+-- 'Building: 11, 12', after the number that reading the sheet gave.
 unfoldable pub buildNo : ℕ → List ℕ → ℕ → ℕ
 buildNo limit s room =
     orElse (sheetNo s) (orElse (statesNumber limit (sheetOf s)) (unless (leb (length (builtTable limit (sheetOf s))) room) 12))
 
 -- 'Building answers N and the table's length, writes the table and leaves the bytes behind it.'
-abbrev pub buildAnswer : ℕ → ℕ → ℕ → Building
-buildAnswer zero n len = Built n len
-buildAnswer (suc number) n len = Building.Refused (suc number)
+abbrev pub builtOrRefused : ℕ → ℕ → ℕ → BuildingAnswer
+builtOrRefused zero n len = Built n len
+builtOrRefused (suc number) n len = BuildingAnswer.Refused (suc number)
 
-unfoldable pub build : ℕ → List ℕ → ℕ → Building
-build limit s room = buildAnswer (buildNo limit s room) (length (builtStates limit (sheetOf s))) (length (builtTable limit (sheetOf s)))
+unfoldable pub build : ℕ → List ℕ → ℕ → BuildingAnswer
+build limit s room = builtOrRefused (buildNo limit s room) (length (builtStates limit (sheetOf s))) (length (builtTable limit (sheetOf s)))
 
 abbrev pub buildWrites : ℕ → List ℕ → List ℕ → List ℕ
 buildWrites zero table out = table ++ drop (length table) out

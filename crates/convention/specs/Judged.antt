@@ -4,8 +4,8 @@ use mathlib.Core.Path.{_≡_}
 use mathlib.Core.List.{List, [], _∷_, _++_, map}
 use lib.Dec.{leb}
 use lib.ListN.{length, take, drop}
-use Rattle.convention.specs.declared.Judging.{Judging}
-use Rattle.convention.specs.declared.Judging.the-variants.{Clean, Fault}
+use Rattle.convention.specs.declared.JudgingAnswer.{JudgingAnswer}
+use Rattle.convention.specs.declared.JudgingAnswer.the-variants.{Clean, Fault}
 use Rattle.convention.specs.Numbers.{orElse, unless}
 use Rattle.convention.specs.Tables.{tableNo, tableOf}
 use Rattle.convention.specs.Lists.{Steps, faultFrom, KindsBelow}
@@ -40,11 +40,11 @@ judgeNo limit t room = orElse (tableNo limit t) (unless (leb (judgeRoom t) room)
 
 -- 'The judge answers clean, writing nothing; or fault number and list length, with the list in the first bytes and the others left.'
 -- What an answer and the lent memory afterwards mean: t is the table, out the lent memory before.
-unfoldable pub Judges : ℕ → List ℕ → List ℕ → Judging → List ℕ → Type 0
+unfoldable pub Judges : ℕ → List ℕ → List ℕ → JudgingAnswer → List ℕ → Type 0
 Judges limit t out Clean out′ = (judgeNo limit t (length out) ≡ 0) × CleanTable t × (out′ ≡ out)
 Judges limit t out (Fault fault n) out′ =
     (judgeNo limit t (length out) ≡ 0) × (n ≤ judgeRoom t) × FirstFaulty t fault (take n out′) × (drop n out′ ≡ drop n out) × (length out′ ≡ length out)
-Judges limit t out (Judging.Refused number) out′ = (judgeNo limit t (length out) ≡ number) × (0 < number) × (out′ ≡ out)
+Judges limit t out (JudgingAnswer.Refused number) out′ = (judgeNo limit t (length out) ≡ number) × (0 < number) × (out′ ≡ out)
 
 -- The same verdict by trying, for examples: all lists of n kinds, in kind order; those of at most n kinds, shorter first; the first that is faulty.
 unfoldable pub eachKind : ℕ → List (List ℕ) → List (List ℕ)
@@ -61,7 +61,7 @@ listsUpTo m (suc n) = listsUpTo m n ++ listsOf m (suc n)
 
 -- A verdict with its list.
 pub record Verdict : Type 0 where
-  pub answer : Judging
+  pub answer : JudgingAnswer
   pub list : List ℕ
 
 unfoldable pub firstFault : (M : Steps) → List (List ℕ) → Verdict

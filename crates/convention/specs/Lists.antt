@@ -7,9 +7,9 @@ use lib.ListN.{length, getD, drop}
 use Rattle.convention.specs.declared.Offset.{Offset}
 use Rattle.convention.specs.declared.Placement.{Placement}
 use Rattle.convention.specs.declared.Placement.the-variants.{Registers, Stack, Nowhere}
-use Rattle.convention.specs.declared.Spelling.{Spelling}
-use Rattle.convention.specs.declared.Placing.{Placing}
-use Rattle.convention.specs.declared.Placing.the-variants.{Placed, Unknown, Faulty}
+use Rattle.convention.specs.declared.PlacementParts.{PlacementParts}
+use Rattle.convention.specs.declared.PlacingAnswer.{PlacingAnswer}
+use Rattle.convention.specs.declared.PlacingAnswer.the-variants.{Placed, Unknown, Faulty}
 use Rattle.convention.specs.Numbers.{orElse, unless}
 use Rattle.convention.specs.Bytes.{fourBytes}
 
@@ -42,19 +42,19 @@ unfoldable pub placesFrom : (M : Steps) → M .State → List ℕ → List Place
 placesFrom M s [] = []
 placesFrom M s (k ∷ ks) = M .place s k ∷ placesFrom M (M .after s k) ks
 
--- The place of argument i of a list. (Behind a faulty step this goes on as if it had none.)
+-- The place of argument i of a list. (After a faulty step this goes on as if it had none.)
 abbrev pub placeBy : (M : Steps) → List ℕ → ℕ → Placement
 placeBy M ks i = getD (placesFrom M (M .begin) ks) i Nowhere
 
 -- 'A placement is one of three things: registers with a first and a count, stack with an offset and a count, or none': its form, number and count.
-abbrev pub spelled : Placement → Spelling
-spelled (Registers first count) = record { form = 1; number = first .0; count = count }
-spelled (Stack offset count) = record { form = 2; number = offset .0; count = count }
-spelled Nowhere = record { form = 0; number = 0; count = 0 }
+abbrev pub partsOf : Placement → PlacementParts
+partsOf (Registers first count) = record { form = 1; number = first .0; count = count }
+partsOf (Stack offset count) = record { form = 2; number = offset .0; count = count }
+partsOf Nowhere = record { form = 0; number = 0; count = 0 }
 
 -- 'Its record is form (1 or 2), first register or offset in four bytes, big-endian, and count in one byte.'
 abbrev pub recordOf : Placement → List ℕ
-recordOf place = spelled place .form ∷ (fourBytes (spelled place .number) ++ spelled place .count ∷ [])
+recordOf place = partsOf place .form ∷ (fourBytes (partsOf place .number) ++ partsOf place .count ∷ [])
 
 -- 'Needed room: placing, 6 bytes an argument.'
 abbrev pub recordLength : ℕ
@@ -79,27 +79,27 @@ abbrev pub listNo : ℕ → ℕ → ℕ → ℕ
 listNo limit arguments room = orElse (unless (leb arguments limit) 8) (unless (leb (recordLength * arguments) room) 12)
 
 -- Number 10, or success with the number of arguments and the final p.
-abbrev pub walkAnswer : ℕ → ℕ → ℕ → Offset → Placing
+abbrev pub walkAnswer : ℕ → ℕ → ℕ → Offset → PlacingAnswer
 walkAnswer zero stop n p = Placed n p
 walkAnswer (suc fault) stop n p = Faulty stop (suc fault)
 
--- '.. 9, 10, so that 9 anywhere in the list comes before 10', behind the number of all that comes first.
-abbrev pub placingAnswer : ℕ → ℕ → (M : Steps) → List ℕ → Placing
-placingAnswer zero m M ks =
+-- '.. 9, 10, so that 9 anywhere in the list comes before 10', after the number of all that comes first.
+abbrev pub placedOrRefused : ℕ → ℕ → (M : Steps) → List ℕ → PlacingAnswer
+placedOrRefused zero m M ks =
     cond (ltb (unknownAt m ks) (length ks)) (Unknown (unknownAt m ks))
     (walkAnswer (faultFrom M (M .begin) ks) (stopFrom M (M .begin) ks) (length ks) (M .p (stateFrom M (M .begin) ks)))
-placingAnswer (suc number) m M ks = Placing.Refused (suc number)
+placedOrRefused (suc number) m M ks = PlacingAnswer.Refused (suc number)
 
 -- The answer of placing the list ks of a convention of m kinds, of which reading gave a number, with so much room.
-unfoldable pub placing : ℕ → ℕ → ℕ → (M : Steps) → List ℕ → ℕ → Placing
-placing limit number m M ks room = placingAnswer (orElse number (listNo limit (length ks) room)) m M ks
+unfoldable pub placing : ℕ → ℕ → ℕ → (M : Steps) → List ℕ → ℕ → PlacingAnswer
+placing limit number m M ks room = placedOrRefused (orElse number (listNo limit (length ks) room)) m M ks
 
 -- 'Success writes the records and leaves the bytes behind them'; a refusal 'leaves lent memory untouched'.
 abbrev pub records : (M : Steps) → List ℕ → List ℕ
 records M ks = recordsOf (placesFrom M (M .begin) ks)
 
-unfoldable pub placingMemory : Placing → (M : Steps) → List ℕ → List ℕ → List ℕ
+unfoldable pub placingMemory : PlacingAnswer → (M : Steps) → List ℕ → List ℕ → List ℕ
 placingMemory (Placed n p) M ks out = records M ks ++ drop (length (records M ks)) out
 placingMemory (Unknown at) M ks out = out
 placingMemory (Faulty at fault) M ks out = out
-placingMemory (Placing.Refused number) M ks out = out
+placingMemory (PlacingAnswer.Refused number) M ks out = out

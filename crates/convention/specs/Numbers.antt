@@ -2,12 +2,12 @@
 use Prim.Native.Nat.{ℕ, zero, suc}
 use mathlib.Core.Bool.{Bool, true, false}
 use Rattle.convention.specs.declared.Reading.{Reading}
-use Rattle.convention.specs.declared.Placing.{Placing}
-use Rattle.convention.specs.declared.Placing.the-variants.{Placed, Unknown, Faulty}
-use Rattle.convention.specs.declared.Building.{Building}
-use Rattle.convention.specs.declared.Building.the-variants.{Built}
-use Rattle.convention.specs.declared.Judging.{Judging}
-use Rattle.convention.specs.declared.Judging.the-variants.{Clean, Fault}
+use Rattle.convention.specs.declared.PlacingAnswer.{PlacingAnswer}
+use Rattle.convention.specs.declared.PlacingAnswer.the-variants.{Placed, Unknown, Faulty}
+use Rattle.convention.specs.declared.BuildingAnswer.{BuildingAnswer}
+use Rattle.convention.specs.declared.BuildingAnswer.the-variants.{Built}
+use Rattle.convention.specs.declared.JudgingAnswer.{JudgingAnswer}
+use Rattle.convention.specs.declared.JudgingAnswer.the-variants.{Clean, Fault}
 
 -- Number 11: the most allocation states, and N's bound. Definitions and laws take a limit as an argument; the calls give it this one.
 abbrev pub stateLimit : ℕ
@@ -49,19 +49,19 @@ readingNo Reading.Read = 0
 readingNo (Reading.Refused number) = number
 
 -- Placing: the number of arguments and the final p; 9 with its position, 10 with position and fault.
-abbrev pub placingSays : Placing → Said
+abbrev pub placingSays : PlacingAnswer → Said
 placingSays (Placed n p) = record { number = 0; fault = 0; count = n; value = p .0 }
 placingSays (Unknown at) = record { number = 9; fault = 0; count = at; value = 0 }
 placingSays (Faulty at fault) = record { number = 10; fault = fault; count = at; value = 0 }
-placingSays (Placing.Refused number) = refusal number
+placingSays (PlacingAnswer.Refused number) = refusal number
 
 -- Building: N and the table's length.
-abbrev pub buildingSays : Building → Said
+abbrev pub buildingSays : BuildingAnswer → Said
 buildingSays (Built n len) = record { number = 0; fault = 0; count = n; value = len }
-buildingSays (Building.Refused number) = refusal number
+buildingSays (BuildingAnswer.Refused number) = refusal number
 
 -- Judging: nothing where clean, or fault number and list length.
-abbrev pub judgingSays : Judging → Said
+abbrev pub judgingSays : JudgingAnswer → Said
 judgingSays Clean = refusal 0
 judgingSays (Fault fault n) = record { number = 0; fault = fault; count = n; value = 0 }
-judgingSays (Judging.Refused number) = refusal number
+judgingSays (JudgingAnswer.Refused number) = refusal number

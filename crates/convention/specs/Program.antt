@@ -5,10 +5,10 @@ use mathlib.Core.Bool.{true, false}
 use mathlib.Core.List.{List, [], _∷_, _++_}
 use lib.Dec.{ltb}
 use lib.ListN.{length, take}
-use Rattle.convention.specs.declared.Building.{Building}
-use Rattle.convention.specs.declared.Building.the-variants.{Built}
-use Rattle.convention.specs.declared.Judging.{Judging}
-use Rattle.convention.specs.declared.Judging.the-variants.{Clean, Fault}
+use Rattle.convention.specs.declared.BuildingAnswer.{BuildingAnswer}
+use Rattle.convention.specs.declared.BuildingAnswer.the-variants.{Built}
+use Rattle.convention.specs.declared.JudgingAnswer.{JudgingAnswer}
+use Rattle.convention.specs.declared.JudgingAnswer.the-variants.{Clean, Fault}
 use Rattle.convention.specs.Numbers.{stateLimit, judgingSays}
 use Rattle.convention.specs.Sheets.{sheetOf}
 use Rattle.convention.specs.Built.{builtTable, build}
@@ -29,7 +29,7 @@ digitsIn (suc turns) n = elim (ltb n 10) [ true ↦ digit n ∷ [] | false ↦ d
 unfoldable pub decimal : ℕ → List ℕ
 decimal n = digitsIn n n
 
--- 'Fields have one space between them': a field behind another.
+-- 'Fields have one space between them': a field after another.
 abbrev pub further : List ℕ → List ℕ
 further field = 32 ∷ field
 
@@ -46,7 +46,7 @@ refusedWord = 114 ∷ 101 ∷ 102 ∷ 117 ∷ 115 ∷ 101 ∷ 100 ∷ []
 abbrev pub lineFeed : List ℕ
 lineFeed = 10 ∷ []
 
--- The kinds of a list, each behind a space.
+-- The kinds of a list, each after a space.
 unfoldable pub kindFields : List ℕ → List ℕ
 kindFields [] = []
 kindFields (k ∷ ks) = further (decimal k) ++ kindFields ks
@@ -56,24 +56,24 @@ unfoldable pub refusedLine : ℕ → List ℕ
 refusedLine number = refusedWord ++ (further (decimal number) ++ lineFeed)
 
 -- '`clean`, or `fault`, the fault number, the length and the kinds of the list'.
-unfoldable pub verdictFields : Judging → List ℕ → List ℕ
+unfoldable pub verdictFields : JudgingAnswer → List ℕ → List ℕ
 verdictFields Clean list = further cleanWord
 verdictFields (Fault fault n) list = further faultWord ++ (further (decimal fault) ++ (further (decimal n) ++ kindFields list))
-verdictFields (Judging.Refused number) list = []
+verdictFields (JudgingAnswer.Refused number) list = []
 
 -- 'one line: states, kinds, then ..', from the answers of building and judging and the judge's list.
-unfoldable pub line : Building → ℕ → Judging → List ℕ → List ℕ
+unfoldable pub line : BuildingAnswer → ℕ → JudgingAnswer → List ℕ → List ℕ
 line (Built n len) m verdict list = decimal n ++ (further (decimal m) ++ (verdictFields verdict list ++ lineFeed))
-line (Building.Refused number) m verdict list = refusedLine number
+line (BuildingAnswer.Refused number) m verdict list = refusedLine number
 
 -- 'It reads one sheet from standard input, builds its table, judges it and prints one line': the text that it prints for an input. Building and
 -- judging have the room that they need: as many bytes as the table has, and in the judge's memory, which was `before` and is `after`, 2N.
 pub record Prints (input text : List ℕ) : Type 0 where
-  pub building : Building
-  pub verdict : Judging
+  pub building : BuildingAnswer
+  pub verdict : JudgingAnswer
   pub before : List ℕ
   pub after : List ℕ
-  pub long : inputLimit < length input → building ≡ Building.Refused 1
+  pub long : inputLimit < length input → building ≡ BuildingAnswer.Refused 1
   pub builds : length input ≤ inputLimit → building ≡ build stateLimit input (length (builtTable stateLimit (sheetOf input)))
   pub room : (n len : ℕ) → building ≡ Built n len → judgeRoom (builtTable stateLimit (sheetOf input)) ≤ length before
   pub judges : (n len : ℕ) → building ≡ Built n len → Judges stateLimit (builtTable stateLimit (sheetOf input)) before verdict after

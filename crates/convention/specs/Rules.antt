@@ -11,12 +11,12 @@ use Rattle.convention.specs.declared.Placement.the-variants.{Registers, 
 use Rattle.convention.specs.declared.SheetKind.{SheetKind}
 use Rattle.convention.specs.declared.Sheet.{Sheet}
 use Rattle.convention.specs.declared.ByRules.{ByRules}
-use Rattle.convention.specs.declared.Placing.{Placing}
+use Rattle.convention.specs.declared.PlacingAnswer.{PlacingAnswer}
 use Rattle.convention.specs.Numbers.{unless}
 use Rattle.convention.specs.Shapes.{registersNeeded, stackBytes}
 use Rattle.convention.specs.Sheets.{mayUseStack, isClosing, sheetKind, sheetNo, sheetOf}
 use Rattle.convention.specs.Offsets.{leastOffset}
-use Rattle.convention.specs.Lists.{Steps, spelled, placing, placingMemory}
+use Rattle.convention.specs.Lists.{Steps, partsOf, placing, placingMemory}
 
 -- 'run s to s + k - 1 is wholly available': none of the `left` registers from `at` on is taken.
 unfoldable pub freeRun : List Bool → ℕ → ℕ → Bool
@@ -33,9 +33,9 @@ markRuns taken count [] = taken
 markRuns taken count (s ∷ starts) = markRuns (markRun taken s count) count starts
 
 -- Rule 1: 'Try the starts of its kind in order.' How many are tried and not taken: those before the first that fits, or all.
-unfoldable pub leftBefore : List Bool → ℕ → List ℕ → ℕ
-leftBefore taken count [] = 0
-leftBefore taken count (s ∷ starts) = elim (freeRun taken s count) [ true ↦ 0 | false ↦ suc (leftBefore taken count starts) ]
+unfoldable pub skippedBefore : List Bool → ℕ → List ℕ → ℕ
+skippedBefore taken count [] = 0
+skippedBefore taken count (s ∷ starts) = elim (freeRun taken s count) [ true ↦ 0 | false ↦ suc (skippedBefore taken count starts) ]
 
 -- The starts of a kind, and how many registers it needs.
 abbrev pub startsOf : SheetKind → List ℕ
@@ -44,15 +44,15 @@ startsOf kind = take (kind .tries) (kind .starts)
 abbrev pub needed : ℕ → SheetKind → ℕ
 needed w kind = registersNeeded w (kind .shape)
 
-abbrev pub leftOf : ℕ → SheetKind → List Bool → ℕ
-leftOf w kind taken = leftBefore taken (needed w kind) (startsOf kind)
+abbrev pub skippedOf : ℕ → SheetKind → List Bool → ℕ
+skippedOf w kind taken = skippedBefore taken (needed w kind) (startsOf kind)
 
 -- Whether a start was taken, and which.
 abbrev pub fits : ℕ → SheetKind → List Bool → Bool
-fits w kind taken = ltb (leftOf w kind taken) (length (startsOf kind))
+fits w kind taken = ltb (skippedOf w kind taken) (length (startsOf kind))
 
 abbrev pub startTaken : ℕ → SheetKind → List Bool → ℕ
-startTaken w kind taken = getD (startsOf kind) (leftOf w kind taken) 0
+startTaken w kind taken = getD (startsOf kind) (skippedOf w kind taken) 0
 
 -- Rule 2: 'the least offset o, at least p, that is a multiple of the alignment'.
 abbrev pub stackOffset : SheetKind → ℕ → ℕ
@@ -66,7 +66,7 @@ rulesPlace w kind s =
 
 -- 'by the rules: no place, fault 1'.
 abbrev pub placeFault : Placement → ℕ
-placeFault place = unless (ltb 0 (spelled place .form)) 1
+placeFault place = unless (ltb 0 (partsOf place .form)) 1
 
 -- 'The run becomes unavailable'; 'p becomes o + size'.
 abbrev pub placeTaken : Placement → List Bool → List Bool
@@ -85,7 +85,7 @@ unfoldable pub rulesAfter : ℕ → SheetKind → ByRules → ByRules
 rulesAfter w kind s = record {
   unavailable =
       cond (isClosing kind)
-      (markRuns (placeTaken (rulesPlace w kind s) (s .unavailable)) (needed w kind) (take (leftOf w kind (s .unavailable)) (startsOf kind)))
+      (markRuns (placeTaken (rulesPlace w kind s) (s .unavailable)) (needed w kind) (take (skippedOf w kind (s .unavailable)) (startsOf kind)))
       (placeTaken (rulesPlace w kind s) (s .unavailable));
   p = placeP (rulesPlace w kind s) (s .p);
 }
@@ -106,7 +106,7 @@ byRules sheet = record {
 }
 
 -- The answer of placing by the rules, and the lent memory afterwards.
-unfoldable pub placeByRules : ℕ → List ℕ → List ℕ → ℕ → Placing
+unfoldable pub placeByRules : ℕ → List ℕ → List ℕ → ℕ → PlacingAnswer
 placeByRules limit s ks room = placing limit (sheetNo s) (sheetOf s .head .kinds) (byRules (sheetOf s)) ks room
 
 unfoldable pub rulesMemory : ℕ → List ℕ → List ℕ → List ℕ → List ℕ

@@ -15,3 +15,11 @@ rightCount w b shape = leb (shape .size) (b * w)
 -- On the stack 'it takes size bytes'.
 unfoldable pub stackBytes : Shape → ℕ
 stackBytes shape = shape .size
+
+-- The most that p grows by in a step, 15 bytes that are skipped and 64 that are taken; and the most that it is after so many: 'the final p, which is at
+-- most 31,600'.
+abbrev pub stepMost : ℕ
+stepMost = 79
+
+abbrev pub pMost : ℕ → ℕ
+pMost arguments = stepMost * arguments

@@ -11,7 +11,7 @@ use Rattle.convention.specs.declared.Shape.{Shape}
 use Rattle.convention.specs.declared.Table.{Table}
 use Rattle.convention.specs.declared.Transition.{Transition}
 use Rattle.convention.specs.declared.ByTable.{ByTable}
-use Rattle.convention.specs.declared.Placing.{Placing}
+use Rattle.convention.specs.declared.PlacingAnswer.{PlacingAnswer}
 use Rattle.convention.specs.Numbers.{orElse, unless}
 use Rattle.convention.specs.Offsets.{leastOffset}
 use Rattle.convention.specs.Shapes.{rightCount, stackBytes}
@@ -57,7 +57,7 @@ byTable table t = record {
 }
 
 -- The answer of placing by a table, and the lent memory afterwards.
-unfoldable pub placeByTable : ℕ → ℕ → List ℕ → List ℕ → ℕ → Placing
+unfoldable pub placeByTable : ℕ → ℕ → List ℕ → List ℕ → ℕ → PlacingAnswer
 placeByTable states limit t ks room = placing limit (tableNo states t) (tableOf t .head .kinds) (byTable (tableOf t) t) ks room
 
 unfoldable pub tableMemory : ℕ → ℕ → List ℕ → List ℕ → List ℕ → List ℕ

@@ -7,6 +7,9 @@ pub const STATE_LIMIT: usize = 200;
 // The most arguments that a call places: `argumentLimit`.
 pub const ARGUMENT_LIMIT: usize = 400;
 
+// How many bytes a placement's record has: `recordLength`.
+pub const RECORD_LENGTH: usize = 6;
+
 // A register's number. Never an offset.
 pub struct Reg(pub u8);
 
@@ -22,7 +25,7 @@ pub enum Placement {
 
 // What a placement is made of: its form, 1 for registers, 2 for the stack and 0 for nowhere; its first register or its offset;
 // its count.
-pub struct Spelling {
+pub struct PlacementParts {
     pub form: u8,
     pub number: u32,
     pub count: u8,
@@ -112,7 +115,7 @@ pub struct TableAnswer {
 
 // The answer of placing a list: the number of arguments and the final p; or a refusal, 9 with its position, 10 with
 // position and fault.
-pub enum Placing {
+pub enum PlacingAnswer {
     Placed(usize, Offset),
     Unknown(usize),
     Faulty(usize, u8),
@@ -120,13 +123,13 @@ pub enum Placing {
 }
 
 // The answer of building: N and the table's length.
-pub enum Building {
+pub enum BuildingAnswer {
     Built(u16, usize),
     Refused(u8),
 }
 
 // The answer of judging: clean, or fault number and list length.
-pub enum Judging {
+pub enum JudgingAnswer {
     Clean,
     Fault(u8, usize),
     Refused(u8),

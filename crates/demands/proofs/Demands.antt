@@ -9,10 +9,10 @@ use lib.ListN.{length, getD, take, drop}
 use lib.Seq.{getD-take, drop-at, length-take-le}
 use Rattle.convention.specs.declared.Offset.{Offset}
 use Rattle.convention.specs.declared.Placement.the-variants.{Nowhere}
-use Rattle.convention.specs.declared.Placing.the-variants.{Placed}
-use Rattle.convention.specs.declared.Building.the-variants.{Built}
-use Rattle.convention.specs.declared.Judging.{Judging}
-use Rattle.convention.specs.declared.Judging.the-variants.{Clean, Fault}
+use Rattle.convention.specs.declared.PlacingAnswer.the-variants.{Placed}
+use Rattle.convention.specs.declared.BuildingAnswer.the-variants.{Built}
+use Rattle.convention.specs.declared.JudgingAnswer.{JudgingAnswer}
+use Rattle.convention.specs.declared.JudgingAnswer.the-variants.{Clean, Fault}
 use Rattle.convention.specs.Numbers.{stateLimit, argumentLimit}
 use Rattle.convention.specs.Sheets.{sheetNo, sheetOf, readSheet}
 use Rattle.convention.specs.Tables.{tableNo, tableOf, readTable}
@@ -26,8 +26,8 @@ use Rattle.convention.proofs.Numbers.{reading-no}
 use Rattle.convention.proofs.Sheets.{sheet-read}
 use Rattle.convention.proofs.Tables.{table-read}
 use Rattle.convention.proofs.Lists.{places-length, record-at}
-use Rattle.places.proofs.Accepted.{accepted}
-use Rattle.places.proofs.Walks.{records-long}
+use Rattle.stepping.proofs.Accepted.{accepted}
+use Rattle.stepping.proofs.Walks.{records-long}
 use Rattle.placing.proofs.Given.{answer-most as rules-most}
 use Rattle.walking.proofs.Given.{answer-most as table-most}
 use Rattle.walking.proofs.WellPlaced.{well-placed}
@@ -35,7 +35,7 @@ use Rattle.building.proofs.Agreement.{agree-stop, agree-before, agree-p}
 use Rattle.building.proofs.Calls.{same-answer, same-bytes}
 use Rattle.building.proofs.Readable.{built-states}
 use Rattle.convention.proofs.Positions.{length-said}
-use Rattle.building.proofs.Bytes.{built-says, built-sheet, built-readable, bytes-are, bytes-behind}
+use Rattle.building.proofs.Bytes.{built-says, built-sheet, built-readable, bytes-are, bytes-after}
 use Rattle.judging.proofs.Fronts.{stops}
 use Rattle.judging.proofs.Trying.{trying-judges}
 use Rattle.demands.proofs.Reading.{sheet-refuses, table-refuses}
@@ -65,7 +65,7 @@ demand-1 = record {
 
 -- ---- demand 2
 
--- The records of a list stand one behind the other, in front of what was there.
+-- The records of a list stand one after the other, in front of what was there.
 down-to-the-byte : (readNo m : ℕ) (M : Steps) (ks out : List ℕ) (n : ℕ) (p : Offset) → placing argumentLimit readNo m M ks (length out) ≡ Placed n p
     → DownToTheByte M ks out n p (placingMemory (Placed n p) M ks out)
 unfolding placingMemory
@@ -75,10 +75,10 @@ down-to-the-byte readNo m M ks out n p placed =
       count = sym (means .count);
       final = sym (means .final);
       records = λ i h. record-at _ _ i (rw (places-length M (M .begin) ks) h);
-      behind = rw (← records-long M ks) (drop-at (records M ks) _ _ refl);
+      untouched = rw (← records-long M ks) (drop-at (records M ks) _ _ refl);
     }
 
--- A walk that stops behind its list has no fault.
+-- A walk that stops after its list has no fault.
 no-stop : (M : Steps) (s : M .State) (ks : List ℕ) → stopFrom M s ks ≡ length ks → faultFrom M s ks ≡ 0
 no-stop M s ks e = elim (eq-zero-or-pos (faultFrom M s ks)) [ inl z ↦ z | inr f ↦ absurd (omega (arith, stops M s ks f .inside)) ]
 
@@ -113,7 +113,7 @@ module _ (s out : List ℕ) (n len : ℕ) (built : build stateLimit s (length ou
         readable = rw same (built-readable stateLimit s (length out) n len built length-said);
         states = rw same (built-states (sheetOf s) (builtStates stateLimit (sheetOf s)) ∙ sym (says .1));
         alike = rw same places-alike;
-        behind = bytes-behind stateLimit s out n len built;
+        untouched = bytes-after stateLimit s out n len built;
       }
 
 pub demand-2 : Demand2
@@ -153,10 +153,10 @@ module _ (t out : List ℕ) (read : tableNo stateLimit t ≡ 0) (room : 2 * tabl
     };
     long = length-take-le n after (omega (arith, j .1, j .4));
     says = j .2 .says;
-    behind = j .3;
+    untouched = j .3;
   }
 
-  judged-right : (answer : Judging) (after : List ℕ) → Judges stateLimit t out answer after → JudgedRight t out answer after
+  judged-right : (answer : JudgingAnswer) (after : List ℕ) → Judges stateLimit t out answer after → JudgedRight t out answer after
   unfolding Judges CleanTable
   judged-right Clean after j = record {
     passed = (λ _ ks below. right-unless t read ks below (j .1 ks), λ _. refl);
@@ -172,15 +172,15 @@ module _ (t out : List ℕ) (read : tableNo stateLimit t ≡ 0) (room : 2 * tabl
         failed = λ fault′ n′ e. let same : n ≡ n′ = cc in let too : fault ≡ fault′ = cc in rw (same, too) at wrong;
         either = inr (fault, n, refl);
       }
-  judged-right (Judging.Refused number) after j =
-      absurd (omega (arith, judging-refuses t out (Judging.Refused number) after j .success .1 (read, room), j .1))
+  judged-right (JudgingAnswer.Refused number) after j =
+      absurd (omega (arith, judging-refuses t out (JudgingAnswer.Refused number) after j .success .1 (read, room), j .1))
 
 -- Some answer is allowed: the verdict by trying, or the refusal.
-answered : (t out : List ℕ) → (answer : Judging) × (after : List ℕ) × Judges stateLimit t out answer after
+answered : (t out : List ℕ) → (answer : JudgingAnswer) × (after : List ℕ) × Judges stateLimit t out answer after
 unfolding Judges
 answered t out = elim (eq-zero-or-pos (judgeNo stateLimit t (length out))) [
   | inl e ↦ (verdictByTrying t .answer, verdictByTrying t .list ++ drop (length (verdictByTrying t .list)) out, trying-judges stateLimit t out e)
-  | inr h ↦ (Judging.Refused (judgeNo stateLimit t (length out)), out, (refl, h, refl))
+  | inr h ↦ (JudgingAnswer.Refused (judgeNo stateLimit t (length out)), out, (refl, h, refl))
 ]
 
 pub demand-3 : Demand3

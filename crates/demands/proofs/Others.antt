@@ -9,14 +9,14 @@ use native.Mathlib.Omega.{arith}
 use lib.Dec.{ltb, leb, lit<}
 use lib.ListN.{length}
 use borrow.Author.Tests.{ltb-true, ltb-false, lt-ltb, le-ltb}
-use Rattle.convention.specs.declared.Building.{Building}
-use Rattle.convention.specs.declared.Judging.{Judging}
-use Rattle.convention.specs.declared.Judging.the-variants.{Clean, Fault}
+use Rattle.convention.specs.declared.BuildingAnswer.{BuildingAnswer}
+use Rattle.convention.specs.declared.JudgingAnswer.{JudgingAnswer}
+use Rattle.convention.specs.declared.JudgingAnswer.the-variants.{Clean, Fault}
 use Rattle.convention.specs.Numbers.{stateLimit, orElse, unless, buildingSays, judgingSays}
 use Rattle.convention.specs.Fields.{headOf}
 use Rattle.convention.specs.Sheets.{sheetNo, sheetOf}
 use Rattle.convention.specs.Tables.{tableNo, tableOf, statesOf, rowNo, row}
-use Rattle.convention.specs.Built.{builtStates, builtTable, statesNumber, buildNo, buildAnswer, build, buildWrites, buildMemory}
+use Rattle.convention.specs.Built.{builtStates, builtTable, statesNumber, buildNo, builtOrRefused, build, buildWrites, buildMemory}
 use Rattle.convention.specs.Judged.{judgeRoom, judgeNo, Judges}
 use Rattle.convention.proofs.Numbers.{or-zero, or-here, or-at, or-past, or-on, or-keeps, unless-zero, unless-true, unless-here}
 use Rattle.convention.proofs.Sheets.{sheet-read}
@@ -32,19 +32,19 @@ use Rattle.demands.specs.Demands.{OneOf, BuildingRefuses, JudgingRefuses
 -- ---- building
 
 -- What an answer tells of the number that it was made from.
-refused-when : (number n len k : ℕ) → 0 < k → buildAnswer number n len ≡ Building.Refused k ↔ number ≡ k
+refused-when : (number n len k : ℕ) → 0 < k → builtOrRefused number n len ≡ BuildingAnswer.Refused k ↔ number ≡ k
 refused-when zero n len k h = (λ e. absurd (let z : _≡_ {A = ℕ} 0 1 = cc in omega arith), λ e. absurd (omega arith))
 refused-when (suc number) n len k h = (λ e. cc, λ e. rw e)
 
-built-when : (number n len : ℕ) → buildingSays (buildAnswer number n len) .number ≡ 0 ↔ number ≡ 0
+built-when : (number n len : ℕ) → buildingSays (builtOrRefused number n len) .number ≡ 0 ↔ number ≡ 0
 built-when zero n len = (λ e. refl, λ e. refl)
 built-when (suc number) n len = (λ e. absurd (omega arith), λ e. absurd (omega arith))
 
-answer-others : (P : ℕ → Type 0) (number n len : ℕ) → P number → P (buildingSays (buildAnswer number n len) .number)
+answer-others : (P : ℕ → Type 0) (number n len : ℕ) → P number → P (buildingSays (builtOrRefused number n len) .number)
 answer-others P zero n len here = here
 answer-others P (suc number) n len here = here
 
-answer-writes : (number n len : ℕ) (table out : List ℕ) → 0 < buildingSays (buildAnswer number n len) .number → buildWrites number table out ≡ out
+answer-writes : (number n len : ℕ) (table out : List ℕ) → 0 < buildingSays (builtOrRefused number n len) .number → buildWrites number table out ≡ out
 answer-writes zero n len table out h = absurd (omega arith)
 answer-writes (suc number) n len table out h = refl
 
@@ -115,27 +115,27 @@ module _ (t out : List ℕ) where
   Judged = OneOf (0 ∷ tableNo stateLimit t ∷ 12 ∷ [])
 
   -- What an answer tells of the number.
-  judged-refused : (answer : Judging) (after : List ℕ) → Judges stateLimit t out answer after → (k : ℕ) → 0 < k
-      → answer ≡ Judging.Refused k ↔ judgeNo stateLimit t (length out) ≡ k
+  judged-refused : (answer : JudgingAnswer) (after : List ℕ) → Judges stateLimit t out answer after → (k : ℕ) → 0 < k
+      → answer ≡ JudgingAnswer.Refused k ↔ judgeNo stateLimit t (length out) ≡ k
   unfolding Judges
   judged-refused Clean after j k h = (λ e. absurd (let z : _≡_ {A = ℕ} 0 1 = cc in omega arith), λ e. absurd (omega arith))
   judged-refused (Fault fault n) after j k h = (λ e. absurd (let z : _≡_ {A = ℕ} 0 1 = cc in omega arith), λ e. absurd (omega arith))
-  judged-refused (Judging.Refused number) after j k h = (λ e. cc (j .0), λ e. ap Judging.Refused (sym (j .0) ∙ e))
+  judged-refused (JudgingAnswer.Refused number) after j k h = (λ e. cc (j .0), λ e. ap JudgingAnswer.Refused (sym (j .0) ∙ e))
 
-  judged-number : (answer : Judging) (after : List ℕ) → Judges stateLimit t out answer after
+  judged-number : (answer : JudgingAnswer) (after : List ℕ) → Judges stateLimit t out answer after
       → judgingSays answer .number ≡ judgeNo stateLimit t (length out)
   unfolding Judges
   judged-number Clean after j = sym (j .0)
   judged-number (Fault fault n) after j = sym (j .0)
-  judged-number (Judging.Refused number) after j = sym (j .0)
+  judged-number (JudgingAnswer.Refused number) after j = sym (j .0)
 
-  judged-untouched : (answer : Judging) (after : List ℕ) → Judges stateLimit t out answer after → 0 < judgingSays answer .number → after ≡ out
+  judged-untouched : (answer : JudgingAnswer) (after : List ℕ) → Judges stateLimit t out answer after → 0 < judgingSays answer .number → after ≡ out
   unfolding Judges
   judged-untouched Clean after j h = absurd (omega arith)
   judged-untouched (Fault fault n) after j h = absurd (omega arith)
-  judged-untouched (Judging.Refused number) after j h = j .2
+  judged-untouched (JudgingAnswer.Refused number) after j h = j .2
 
-  pub judging-refuses : (answer : Judging) (after : List ℕ) → Judges stateLimit t out answer after → JudgingRefuses t out answer after
+  pub judging-refuses : (answer : JudgingAnswer) (after : List ℕ) → Judges stateLimit t out answer after → JudgingRefuses t out answer after
   unfolding judgeNo OneOf
   judging-refuses answer after j =
       let low = table-refuses stateLimit t .others in

@@ -9,10 +9,10 @@ use lib.Dec.{ltb, leb, lit<}
 use lib.ListN.{length, getD, take, drop, take-append-drop}
 use lib.Seq.{length-take-le}
 use borrow.Author.Tests.{ltb-true, ltb-false}
-use Rattle.convention.specs.declared.Placing.{Placing}
-use Rattle.convention.specs.declared.Placing.the-variants.{Placed, Unknown, Faulty}
+use Rattle.convention.specs.declared.PlacingAnswer.{PlacingAnswer}
+use Rattle.convention.specs.declared.PlacingAnswer.the-variants.{Placed, Unknown, Faulty}
 use Rattle.convention.specs.Numbers.{argumentLimit, orElse, unless, placingSays}
-use Rattle.convention.specs.Lists.{Steps, faultFrom, stopFrom, stateFrom, unknownAt, recordLength, walkAnswer, placingAnswer, placing, placingMemory, KindsBelow}
+use Rattle.convention.specs.Lists.{Steps, faultFrom, stopFrom, stateFrom, unknownAt, recordLength, walkAnswer, placedOrRefused, placing, placingMemory, KindsBelow}
 use Rattle.convention.proofs.Numbers.{or-zero, or-here, or-at, or-past, or-on, or-keeps}
 use Rattle.convention.proofs.Lists.{unknown-le, unknown-turn, unknown-hit, known-below, below-at, fault-append, stop-append, fault-hit, stop-hit}
 use Rattle.convention.proofs.Runs.{either}
@@ -75,10 +75,10 @@ module _ (M : Steps) (ks : List ℕ) where
       let first : FirstFault M ks (stopFrom M (M .begin) ks) _ = record { inside = s .inside; faulty = s .faulty; here = refl; before = s .clean } in
       rw (first-fault _ _ first) first
 
--- What an answer tells, and what makes it, behind the number of the tests that come first.
+-- What an answer tells, and what makes it, after the number of the tests that come first.
 module _ (m : ℕ) (M : Steps) (ks : List ℕ) where
   -- Where that number is 0: an unknown kind, a fault, or success.
-  data Walked (answer : Placing) : Type 0 where
+  data Walked (answer : PlacingAnswer) : Type 0 where
     unknown : (at : ℕ) → answer ≡ Unknown at → FirstUnknown m ks at → Walked answer
     faulty : (at fault : ℕ) → answer ≡ Faulty at fault → KindsBelow m ks → FirstFault M ks at fault → Walked answer
     placed : answer ≡ Placed (length ks) (M .p (stateFrom M (M .begin) ks)) → KindsBelow m ks → faultFrom M (M .begin) ks ≡ 0 → Walked answer
@@ -90,7 +90,7 @@ module _ (m : ℕ) (M : Steps) (ks : List ℕ) where
       let first = fault-first M ks (rw e (omega arith)) in
       faulty _ _ refl below (rw e at first)
 
-  walked : Walked (placingAnswer 0 m M ks)
+  walked : Walked (placedOrRefused 0 m M ks)
   walked = elim (either (ltb (unknownAt m ks) (length ks))) [
     | inl h ↦ rw h (unknown _ refl (unknown-first m ks (ltb-true _ _ h)))
     | inr h ↦ rw h (walk-answers _ refl (known-below m ks (omega (arith, unknown-le m ks, ltb-false (unknownAt m ks) (length ks) h))))
@@ -101,8 +101,8 @@ module _ (m : ℕ) (M : Steps) (ks : List ℕ) where
   not-both at f below = omega (arith, f .unknown, below-at m ks below at (f .inside))
 
   -- So each answer is given exactly when its line says.
-  behind-refused : (number n : ℕ) → 0 < n → placingAnswer number m M ks ≡ Placing.Refused n ↔ number ≡ n
-  behind-refused zero n h = (
+  after-refused : (number n : ℕ) → 0 < n → placedOrRefused number m M ks ≡ PlacingAnswer.Refused n ↔ number ≡ n
+  after-refused zero n h = (
     λ e. absurd (elim walked [
       | unknown at a f ↦ let z : _≡_ {A = ℕ} 0 1 = cc in omega arith
       | faulty at fault a b f ↦ let z : _≡_ {A = ℕ} 0 1 = cc in omega arith
@@ -110,10 +110,10 @@ module _ (m : ℕ) (M : Steps) (ks : List ℕ) where
     ]),
     λ e. absurd (omega arith),
   )
-  behind-refused (suc number) n h = (λ e. cc, λ e. rw e)
+  after-refused (suc number) n h = (λ e. cc, λ e. rw e)
 
-  behind-unknown : (number at : ℕ) → placingAnswer number m M ks ≡ Unknown at ↔ (number ≡ 0) × FirstUnknown m ks at
-  behind-unknown zero at = (
+  after-unknown : (number at : ℕ) → placedOrRefused number m M ks ≡ Unknown at ↔ (number ≡ 0) × FirstUnknown m ks at
+  after-unknown zero at = (
     λ e. (
       refl,
       elim walked [
@@ -128,10 +128,10 @@ module _ (m : ℕ) (M : Steps) (ks : List ℕ) where
       | placed a b f ↦ absurd (not-both at (e .1) b)
     ],
   )
-  behind-unknown (suc number) at = (λ e. absurd (let z : _≡_ {A = ℕ} 0 1 = cc in omega arith), λ e. absurd (omega arith))
+  after-unknown (suc number) at = (λ e. absurd (let z : _≡_ {A = ℕ} 0 1 = cc in omega arith), λ e. absurd (omega arith))
 
-  behind-faulty : (number at fault : ℕ) → placingAnswer number m M ks ≡ Faulty at fault ↔ (number ≡ 0) × KindsBelow m ks × FirstFault M ks at fault
-  behind-faulty zero at fault = (
+  after-faulty : (number at fault : ℕ) → placedOrRefused number m M ks ≡ Faulty at fault ↔ (number ≡ 0) × KindsBelow m ks × FirstFault M ks at fault
+  after-faulty zero at fault = (
     λ e. elim walked [
       | unknown at′ a f ↦ absurd (let z : _≡_ {A = ℕ} 0 1 = cc in omega arith)
       | faulty at′ fault′ a b f ↦ let same : at′ ≡ at = cc in let too : fault′ ≡ fault = cc in (refl, b, rw (same, too) at f)
@@ -146,11 +146,11 @@ module _ (m : ℕ) (M : Steps) (ks : List ℕ) where
       | placed a b f ↦ absurd (omega (arith, first-fault M ks at fault (e .2), e .2 .faulty))
     ],
   )
-  behind-faulty (suc number) at fault = (λ e. absurd (let z : _≡_ {A = ℕ} 0 1 = cc in omega arith), λ e. absurd (omega arith))
+  after-faulty (suc number) at fault = (λ e. absurd (let z : _≡_ {A = ℕ} 0 1 = cc in omega arith), λ e. absurd (omega arith))
 
-  behind-placed : (number : ℕ) → placingAnswer number m M ks ≡ Placed (length ks) (M .p (stateFrom M (M .begin) ks))
+  after-placed : (number : ℕ) → placedOrRefused number m M ks ≡ Placed (length ks) (M .p (stateFrom M (M .begin) ks))
       ↔ (number ≡ 0) × KindsBelow m ks × (faultFrom M (M .begin) ks ≡ 0)
-  behind-placed zero = (
+  after-placed zero = (
     λ e. elim walked [
       | unknown at a f ↦ absurd (let z : _≡_ {A = ℕ} 0 1 = cc in omega arith)
       | faulty at fault a b f ↦ absurd (let z : _≡_ {A = ℕ} 0 1 = cc in omega arith)
@@ -162,12 +162,12 @@ module _ (m : ℕ) (M : Steps) (ks : List ℕ) where
       | placed a b f ↦ a
     ],
   )
-  behind-placed (suc number) = (λ e. absurd (let z : _≡_ {A = ℕ} 0 1 = cc in omega arith), λ e. absurd (omega arith))
+  after-placed (suc number) = (λ e. absurd (let z : _≡_ {A = ℕ} 0 1 = cc in omega arith), λ e. absurd (omega arith))
 
   -- No other number is given.
-  behind-others : (P : ℕ → Type 0) (number : ℕ) → P number → P 0 → P 9 → P 10 → P (placingSays (placingAnswer number m M ks) .number)
-  behind-others P zero here none nine ten = elim walked [ unknown at a f ↦ rw a nine | faulty at fault a b f ↦ rw a ten | placed a b f ↦ rw a none ]
-  behind-others P (suc number) here none nine ten = here
+  after-others : (P : ℕ → Type 0) (number : ℕ) → P number → P 0 → P 9 → P 10 → P (placingSays (placedOrRefused number m M ks) .number)
+  after-others P zero here none nine ten = elim walked [ unknown at a f ↦ rw a nine | faulty at fault a b f ↦ rw a ten | placed a b f ↦ rw a none ]
+  after-others P (suc number) here none nine ten = here
 
 -- The answer and the output of placing, where reading gave no number above 7.
 module _ (read m : ℕ) (low : read ≤ 7) (M : Steps) (ks out : List ℕ) where
@@ -197,32 +197,32 @@ module _ (read m : ℕ) (low : read ≤ 7) (M : Steps) (ks out : List ℕ) where
       Iff·trans (or-past many narrow 12 (test-other (leb (length ks) argumentLimit) 8 12 (lit< tt) (λ e. omega arith)))
       (Iff·and (test-passes _ _ 8 (lit< tt)) (test-fails _ _ 12 (lit< tt)))
 
-  placing-untouched : (answer : Placing) → 0 < placingSays answer .number → placingMemory answer M ks out ≡ out
+  placing-untouched : (answer : PlacingAnswer) → 0 < placingSays answer .number → placingMemory answer M ks out ≡ out
   unfolding placingMemory
   placing-untouched (Placed n p) h = absurd (omega arith)
   placing-untouched (Unknown at) h = refl
   placing-untouched (Faulty at fault) h = refl
-  placing-untouched (Placing.Refused number) h = refl
+  placing-untouched (PlacingAnswer.Refused number) h = refl
 
   pub placing-refuses : PlacingRefuses read m M ks out (placing argumentLimit read m M ks (length out)) (placingMemory (placing argumentLimit read m M ks (length out)) M ks out)
   unfolding placing OneOf
   placing-refuses = record {
-    reader = λ h. rw (or-here read (orElse many narrow) h) (behind-refused m M ks read read h .1 refl);
+    reader = λ h. rw (or-here read (orElse many narrow) h) (after-refused m M ks read read h .1 refl);
     eight =
-        Iff·trans (behind-refused m M ks first 8 (lit< tt))
+        Iff·trans (after-refused m M ks first 8 (lit< tt))
         (Iff·trans (or-past read _ 8 (λ e. omega arith))
         (Iff·and Iff·rfl (Iff·trans (or-at many narrow 8 (lit< tt) (test-other (leb (recordLength * length ks) (length out)) 12 8 (lit< tt) (λ e. omega arith))) (test-fails _ _ 8 (lit< tt)))));
     twelve =
-        Iff·trans (behind-refused m M ks first 12 (lit< tt))
+        Iff·trans (after-refused m M ks first 12 (lit< tt))
         (Iff·trans (or-past read _ 12 (λ e. omega arith)) (
           λ e. let both = few-narrow .0 (e .1) in (e .0, both .0, both .1),
           λ e. (e .0, few-narrow .1 (e .1, e .2)),
         ));
-    nine = λ at. Iff·trans (behind-unknown m M ks first at) (Iff·and ready Iff·rfl);
-    ten = λ at fault. Iff·trans (behind-faulty m M ks first at fault) (λ e. (ready .0 (e .0), e .1, e .2), λ e. (ready .1 (e .0), e .1, e .2));
-    success = Iff·trans (behind-placed m M ks first) (λ e. (ready .0 (e .0), e .1, e .2), λ e. (ready .1 (e .0), e .1, e .2));
+    nine = λ at. Iff·trans (after-unknown m M ks first at) (Iff·and ready Iff·rfl);
+    ten = λ at fault. Iff·trans (after-faulty m M ks first at fault) (λ e. (ready .0 (e .0), e .1, e .2), λ e. (ready .1 (e .0), e .1, e .2));
+    success = Iff·trans (after-placed m M ks first) (λ e. (ready .0 (e .0), e .1, e .2), λ e. (ready .1 (e .0), e .1, e .2));
     others =
-        behind-others m M ks Listed first
+        after-others m M ks Listed first
         (or-keeps Listed read (orElse many narrow) (inr (inl refl))
         (or-keeps Listed many narrow (test-keeps Listed (leb (length ks) argumentLimit) 8 (inl refl) (inr (inr (inl refl)))) (test-keeps Listed (leb (recordLength * length ks) (length out)) 12 (inl refl) (inr (inr (inr (inl refl)))))))
         (inl refl)

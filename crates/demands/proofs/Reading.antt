@@ -1,4 +1,4 @@
--- Demand 1 of reading: number 1 comes first, then the version; and what is read behind it gives 3 or more.
+-- Demand 1 of reading: number 1 comes first, then the version; and what is read after it gives 3 or more.
 use Prim.Native.Nat.{ℕ, zero, suc, _+_, _-_, _≤_, _<_}
 use mathlib.Core.Path.{_≡_, refl, sym, ap, subst, _∙_}
 use mathlib.Core.Logic.{_⊎_, inl, inr, ⊎-elim, ⊎-map, _↔_, Iff·trans}
@@ -6,9 +6,9 @@ use mathlib.Core.Bool.{Bool, true, false, _&&_, true≢false, false≢true}
 use mathlib.Core.List.{List}
 use native.Mathlib.Omega.{arith}
 use borrow.Author.Needs.{needs}
-use lib.Dec.{ltb, leb, eqb}
-use lib.ListN.{length, getD, drop}
-use borrow.Author.Tests.{ltb-true, leb-true, leb-false, le-leb, lt-leb, lt-ltb, eqb-true, eqb-false, eq-eqb, ne-eqb}
+use lib.Dec.{leb, eqb}
+use lib.ListN.{length, drop}
+use borrow.Author.Tests.{leb-true, leb-false, le-leb, lt-leb, eqb-true, eqb-false, eq-eqb, ne-eqb}
 use Rattle.convention.specs.declared.Head.{Head}
 use Rattle.convention.specs.Numbers.{orElse, unless}
 use Rattle.convention.specs.Layout.{lengthBytes, versionAt, kindsAt, shapeLength, transitionLength}
@@ -18,7 +18,7 @@ use Rattle.convention.specs.Tables.{tableKindsNo, transitionNo, transitionsNo, 
 use Rattle.convention.proofs.Numbers.{or-assoc, or-keeps}
 use Rattle.demands.specs.Demands.{ReadingRefuses}
 
--- A number that may be given behind the version: 0, or one from 3 on.
+-- A number that may be given after the version: 0, or one from 3 on.
 record Later (most n : ℕ) : Type 0 where
   which : (n ≡ 0) ⊎ ((3 ≤ n) × (n ≤ most))
 
@@ -71,7 +71,7 @@ module _ (three : 3 ≤ 7) (four : 4 ≤ 7) (five : 5 ≤ 7) (seven : 7 ≤ 7) w
   later-transitions v h states t at (suc left) =
       let on = later-transitions v h states t (at + transitionLength v) left in search (later-or, later-test, three, seven)
 
--- Whatever is read behind the version: the tests of the length and of the version, by what each says.
+-- Whatever is read after the version: the tests of the length and of the version, by what each says.
 module _ (most rest : ℕ) (some : 3 ≤ most) (later : Later most rest) where
   abbrev number : Bool → Bool → Bool → Bool → ℕ
   number long counted there right = orElse (unless (long && counted) 1) (orElse (orElse (unless there 3) (unless right 2)) rest)

@@ -15,15 +15,16 @@ use mathlib.Core.Logic.{_⊎_, _↔_}
 use mathlib.Core.List.{List, [], _∷_}
 use lib.ListN.{length, getD, take, drop}
 use Rattle.convention.specs.declared.Offset.{Offset}
-use Rattle.convention.specs.declared.Placing.{Placing}
-use Rattle.convention.specs.declared.Placing.the-variants.{Placed, Unknown, Faulty}
-use Rattle.convention.specs.declared.Building.{Building}
-use Rattle.convention.specs.declared.Building.the-variants.{Built}
-use Rattle.convention.specs.declared.Judging.{Judging}
-use Rattle.convention.specs.declared.Judging.the-variants.{Clean, Fault}
+use Rattle.convention.specs.declared.PlacingAnswer.{PlacingAnswer}
+use Rattle.convention.specs.declared.PlacingAnswer.the-variants.{Placed, Unknown, Faulty}
+use Rattle.convention.specs.declared.BuildingAnswer.{BuildingAnswer}
+use Rattle.convention.specs.declared.BuildingAnswer.the-variants.{Built}
+use Rattle.convention.specs.declared.JudgingAnswer.{JudgingAnswer}
+use Rattle.convention.specs.declared.JudgingAnswer.the-variants.{Clean, Fault}
 use Rattle.convention.specs.Numbers.{stateLimit, argumentLimit, readingNo, placingSays, buildingSays, judgingSays}
 use Rattle.convention.specs.Fields.{lengthField}
 use Rattle.convention.specs.Sheets.{sheetNo, sheetOf, readSheet}
+use Rattle.convention.specs.Shapes.{pMost}
 use Rattle.convention.specs.Layout.{lengthBytes, versionAt, rowLength, rowAt}
 use Rattle.convention.specs.Tables.{tableNo, tableOf, readTable, rowNo, row}
 use Rattle.convention.specs.Lists.{Steps, placeBy, faultFrom, stopFrom, stateFrom, recordOf, recordLength, KindsBelow}
@@ -44,7 +45,7 @@ OfSheet s ks = KindsBelow (sheetOf s .head .kinds) ks
 abbrev pub OfTable : List ℕ → List ℕ → Type 0
 OfTable t ks = KindsBelow (tableOf t .head .kinds) ks
 
--- Either way of placing: where it stops, at its first faulty step or behind the list; and p behind the list. (`placeBy` is the place that it gives argument i.)
+-- Either way of placing: where it stops, at its first faulty step or after the list; and p after the list. (`placeBy` is the place that it gives argument i.)
 abbrev pub stopBy : Steps → List ℕ → ℕ
 stopBy M ks = stopFrom M (M .begin) ks
 
@@ -93,10 +94,10 @@ pub record Ready (readNo : ℕ) (ks out : List ℕ) : Type 0 where
   pub room : recordLength * length ks ≤ length out
 
 -- Placing a list, by the rules of a sheet or by a table of m kinds, of which reading gave a number. Success answers the number of arguments and the final p.
-pub record PlacingRefuses (readNo m : ℕ) (M : Steps) (ks out : List ℕ) (answer : Placing) (after : List ℕ) : Type 0 where
-  pub reader : 0 < readNo → answer ≡ Placing.Refused readNo
-  pub eight : answer ≡ Placing.Refused 8 ↔ (readNo ≡ 0) × (argumentLimit < length ks)
-  pub twelve : answer ≡ Placing.Refused 12 ↔ (readNo ≡ 0) × (length ks ≤ argumentLimit) × (length out < recordLength * length ks)
+pub record PlacingRefuses (readNo m : ℕ) (M : Steps) (ks out : List ℕ) (answer : PlacingAnswer) (after : List ℕ) : Type 0 where
+  pub reader : 0 < readNo → answer ≡ PlacingAnswer.Refused readNo
+  pub eight : answer ≡ PlacingAnswer.Refused 8 ↔ (readNo ≡ 0) × (argumentLimit < length ks)
+  pub twelve : answer ≡ PlacingAnswer.Refused 12 ↔ (readNo ≡ 0) × (length ks ≤ argumentLimit) × (length out < recordLength * length ks)
   pub nine : (at : ℕ) → answer ≡ Unknown at ↔ Ready readNo ks out × FirstUnknown m ks at
   pub ten : (at fault : ℕ) → answer ≡ Faulty at fault ↔ Ready readNo ks out × KindsBelow m ks × FirstFault M ks at fault
   pub success : answer ≡ Placed (length ks) (pBy M ks) ↔ Ready readNo ks out × KindsBelow m ks × (faultFrom M (M .begin) ks ≡ 0)
@@ -104,10 +105,10 @@ pub record PlacingRefuses (readNo m : ℕ) (M : Steps) (ks out : List ℕ) (answ
   pub untouched : 0 < placingSays answer .number → after ≡ out
 
 -- Building.
-pub record BuildingRefuses (s out : List ℕ) (answer : Building) (after : List ℕ) : Type 0 where
-  pub reader : 0 < sheetNo s → answer ≡ Building.Refused (sheetNo s)
-  pub eleven : answer ≡ Building.Refused 11 ↔ (sheetNo s ≡ 0) × ReachMore stateLimit (sheetOf s)
-  pub twelve : answer ≡ Building.Refused 12
+pub record BuildingRefuses (s out : List ℕ) (answer : BuildingAnswer) (after : List ℕ) : Type 0 where
+  pub reader : 0 < sheetNo s → answer ≡ BuildingAnswer.Refused (sheetNo s)
+  pub eleven : answer ≡ BuildingAnswer.Refused 11 ↔ (sheetNo s ≡ 0) × ReachMore stateLimit (sheetOf s)
+  pub twelve : answer ≡ BuildingAnswer.Refused 12
       ↔ (sheetNo s ≡ 0) × (ReachMore stateLimit (sheetOf s) → ⊥) × (length out < length (builtTable stateLimit (sheetOf s)))
   pub success : buildingSays answer .number ≡ 0
       ↔ (sheetNo s ≡ 0) × (ReachMore stateLimit (sheetOf s) → ⊥) × (length (builtTable stateLimit (sheetOf s)) ≤ length out)
@@ -115,9 +116,9 @@ pub record BuildingRefuses (s out : List ℕ) (answer : Building) (after : List 
   pub untouched : 0 < buildingSays answer .number → after ≡ out
 
 -- Judging: 'given room for 2N kinds'.
-pub record JudgingRefuses (t out : List ℕ) (answer : Judging) (after : List ℕ) : Type 0 where
-  pub reader : 0 < tableNo stateLimit t → answer ≡ Judging.Refused (tableNo stateLimit t)
-  pub twelve : answer ≡ Judging.Refused 12 ↔ (tableNo stateLimit t ≡ 0) × (length out < 2 * tableOf t .states)
+pub record JudgingRefuses (t out : List ℕ) (answer : JudgingAnswer) (after : List ℕ) : Type 0 where
+  pub reader : 0 < tableNo stateLimit t → answer ≡ JudgingAnswer.Refused (tableNo stateLimit t)
+  pub twelve : answer ≡ JudgingAnswer.Refused 12 ↔ (tableNo stateLimit t ≡ 0) × (length out < 2 * tableOf t .states)
   pub success : judgingSays answer .number ≡ 0 ↔ (tableNo stateLimit t ≡ 0) × (2 * tableOf t .states ≤ length out)
   pub others : OneOf (0 ∷ tableNo stateLimit t ∷ 12 ∷ []) (judgingSays answer .number)
   pub untouched : 0 < judgingSays answer .number → after ≡ out
@@ -151,20 +152,20 @@ pub record Demand1 : Type 0 where
   pub by-table : (t ks out : List ℕ) → PlacingRefuses (tableNo stateLimit t) (tableOf t .head .kinds) (table t) ks out
       (placeByTable stateLimit argumentLimit t ks (length out)) (tableMemory stateLimit argumentLimit t ks out)
   pub builds : (s out : List ℕ) → BuildingRefuses s out (build stateLimit s (length out)) (buildMemory stateLimit s out)
-  pub judges : (t out : List ℕ) (answer : Judging) (after : List ℕ) → Judges stateLimit t out answer after → JudgingRefuses t out answer after
+  pub judges : (t out : List ℕ) (answer : JudgingAnswer) (after : List ℕ) → Judges stateLimit t out answer after → JudgingRefuses t out answer after
   pub rows : (t : List ℕ) (state : ℕ) → RowRefuses t state (rowNo stateLimit t state) (row stateLimit t state)
-  pub p-by-rules : (s ks : List ℕ) (room n : ℕ) (p : Offset) → placeByRules argumentLimit s ks room ≡ Placed n p → p .0 ≤ 31600
-  pub p-by-table : (t ks : List ℕ) (room n : ℕ) (p : Offset) → placeByTable stateLimit argumentLimit t ks room ≡ Placed n p → p .0 ≤ 31600
+  pub p-by-rules : (s ks : List ℕ) (room n : ℕ) (p : Offset) → placeByRules argumentLimit s ks room ≡ Placed n p → p .0 ≤ pMost argumentLimit
+  pub p-by-table : (t ks : List ℕ) (room n : ℕ) (p : Offset) → placeByTable stateLimit argumentLimit t ks room ≡ Placed n p → p .0 ≤ pMost argumentLimit
 
 -- ---- Demand 2. 'A placement is the one that 01's rules give, argument by argument, down to the byte. A table built from a sheet gives that same placement, or stops
 -- at the same argument, for every list of kinds of any length.'
 
--- A list that was placed: the answer is its length and p, the record of each argument is that of its place, and the bytes behind the records are left.
+-- A list that was placed: the answer is its length and p, the record of each argument is that of its place, and the bytes after the records are untouched.
 pub record DownToTheByte (M : Steps) (ks out : List ℕ) (n : ℕ) (p : Offset) (after : List ℕ) : Type 0 where
   pub count : n ≡ length ks
   pub final : p ≡ pBy M ks
   pub records : (i : ℕ) → i < length ks → take recordLength (drop (recordLength * i) after) ≡ recordOf (placeBy M ks i)
-  pub behind : drop (recordLength * length ks) after ≡ drop (recordLength * length ks) out
+  pub untouched : drop (recordLength * length ks) after ≡ drop (recordLength * length ks) out
 
 -- A table t gives the same places as the rules of s, stops where they stop and ends at the same p; and the two calls give the same answer and leave the same output.
 pub record PlacesAlike (s t : List ℕ) : Type 0 where
@@ -174,13 +175,13 @@ pub record PlacesAlike (s t : List ℕ) : Type 0 where
   pub answer : (ks : List ℕ) (room : ℕ) → placeByTable stateLimit argumentLimit t ks room ≡ placeByRules argumentLimit s ks room
   pub memory : (ks out : List ℕ) → tableMemory stateLimit argumentLimit t ks out ≡ rulesMemory argumentLimit s ks out
 
--- The first len bytes of the output are a table of n states that can be read and places like its sheet; the bytes behind it are left.
+-- The first len bytes of the output are a table of n states that can be read and places like its sheet; the bytes after it are untouched.
 pub record BuiltBytes (s out : List ℕ) (n len : ℕ) (after : List ℕ) : Type 0 where
   pub long : length (take len after) ≡ len
   pub readable : tableNo stateLimit (take len after) ≡ 0
   pub states : tableOf (take len after) .states ≡ n
   pub alike : PlacesAlike s (take len after)
-  pub behind : drop len after ≡ drop len out
+  pub untouched : drop len after ≡ drop len out
 
 -- Demand 2, of the placing calls and of building.
 pub record Demand2 : Type 0 where
@@ -199,15 +200,15 @@ pub record FirstWrong (t ks : List ℕ) : Type 0 where
   pub wrong : WellPlaced t ks → ⊥
   pub first : (ks′ : List ℕ) → OfTable t ks′ → Before ks′ ks → WellPlaced t ks′
 
--- A fault with a list of n kinds: the first n bytes of the output are the first list that goes wrong, the fault is its, and the other bytes are left.
+-- A fault with a list of n kinds: the first n bytes of the output are the first list that goes wrong, the fault is its, and the other bytes are untouched.
 pub record ComesBack (t out : List ℕ) (fault n : ℕ) (after : List ℕ) : Type 0 where
   pub list : FirstWrong t (take n after)
   pub long : length (take n after) ≡ n
   pub says : fault ≡ listFault t (take n after)
-  pub behind : drop n after ≡ drop n out
+  pub untouched : drop n after ≡ drop n out
 
 -- The answer is clean exactly when every list goes right, and then nothing is written; or it is a fault, with its list.
-pub record JudgedRight (t out : List ℕ) (answer : Judging) (after : List ℕ) : Type 0 where
+pub record JudgedRight (t out : List ℕ) (answer : JudgingAnswer) (after : List ℕ) : Type 0 where
   pub passed : answer ≡ Clean ↔ ((ks : List ℕ) → OfTable t ks → WellPlaced t ks)
   pub untouched : answer ≡ Clean → after ≡ out
   pub failed : (fault n : ℕ) → answer ≡ Fault fault n → ComesBack t out fault n after
@@ -215,7 +216,7 @@ pub record JudgedRight (t out : List ℕ) (answer : Judging) (after : List ℕ) 
 
 -- Demand 3: judging has an answer on every input; whatever answer and output it gives is right; and of 01's faults a list has none exactly where it goes right.
 pub record Demand3 : Type 0 where
-  pub answered : (t out : List ℕ) → (answer : Judging) × (after : List ℕ) × Judges stateLimit t out answer after
-  pub judged : (t out : List ℕ) (answer : Judging) (after : List ℕ) → tableNo stateLimit t ≡ 0 → 2 * tableOf t .states ≤ length out
+  pub answered : (t out : List ℕ) → (answer : JudgingAnswer) × (after : List ℕ) × Judges stateLimit t out answer after
+  pub judged : (t out : List ℕ) (answer : JudgingAnswer) (after : List ℕ) → tableNo stateLimit t ≡ 0 → 2 * tableOf t .states ≤ length out
       → Judges stateLimit t out answer after → JudgedRight t out answer after
   pub faults : (t ks : List ℕ) → tableNo stateLimit t ≡ 0 → OfTable t ks → listFault t ks ≡ 0 ↔ WellPlaced t ks

@@ -62,7 +62,7 @@ module _ (N : Numbered) (nodes : ℕ) (l : List (Entry (numbered N))) (count : �
     abbrev after : List ℕ
     after = appended nodes work count (e .node) pair
 
-    -- Every word but three is left.
+    -- Every word but three is untouched.
     other-word : (j : ℕ) → (j ≡ e .node → ⊥) → (j ≡ nodes + count → ⊥) → (j ≡ 2 * nodes + count → ⊥) → wordAt after j ≡ wordAt work j
     other-word j a b c = word-put-other _ _ _ j c ∙ (word-put-other _ _ _ j b ∙ word-put-other _ _ _ j a)
 

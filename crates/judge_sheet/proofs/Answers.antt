@@ -5,33 +5,33 @@ use mathlib.Core.List.{List, []}
 use native.Mathlib.Omega.{arith}
 use lib.ListN.{length, take}
 use Rattle.convention.specs.declared.Head.{Head}
-use Rattle.convention.specs.declared.Building.{Building}
-use Rattle.convention.specs.declared.Building.the-variants.{Built}
-use Rattle.convention.specs.declared.Judging.the-variants.{Clean}
+use Rattle.convention.specs.declared.BuildingAnswer.{BuildingAnswer}
+use Rattle.convention.specs.declared.BuildingAnswer.the-variants.{Built}
+use Rattle.convention.specs.declared.JudgingAnswer.the-variants.{Clean}
 use Rattle.convention.specs.Numbers.{stateLimit}
 use Rattle.convention.specs.Fields.{headOf}
 use Rattle.convention.specs.Sheets.{sheetOf}
 use Rattle.convention.specs.Built.{builtTable, build, buildMemory}
 use Rattle.convention.specs.Program.{inputLimit, refusedLine, line, Prints}
-use Rattle.line.specs.Appended.{Room, Appended}
+use Rattle.line.specs.Appended.{FieldRoom, Appended}
 use Rattle.line.proofs.Lengths.{refused-most}
 use Rattle.judge_sheet.specs.Texts.{lineRoom, tableRoom, TextIs, TableLine}
 use Rattle.judge_sheet.proofs.Texts.{text-is}
 use Rattle.judge_sheet.proofs.Builds.{room-enough, table-bytes}
 
 -- Room for a refusal.
-pub refused-room : (out : List ℕ) (number : ℕ) → lineRoom ≤ length out → number < 256 → Room out 0 (refusedLine number)
-refused-room out number room h = record { fits = omega (arith, room, refused-most 3 number (omega arith) (omega arith)) }
+pub refusal-room : (out : List ℕ) (number : ℕ) → lineRoom ≤ length out → number < 256 → FieldRoom out 0 (refusedLine number)
+refusal-room out number room h = record { fits = omega (arith, room, refused-most 3 number (omega arith) (omega arith)) }
 
 -- A refusal: there is nothing to judge.
 refused-prints : (input : List ℕ) (number : ℕ) → (inputLimit < length input → number ≡ 1)
-    → (length input ≤ inputLimit → Building.Refused number ≡ build stateLimit input (length (builtTable stateLimit (sheetOf input))))
+    → (length input ≤ inputLimit → BuildingAnswer.Refused number ≡ build stateLimit input (length (builtTable stateLimit (sheetOf input))))
     → Prints input (refusedLine number)
 unfolding line
 refused-prints input number long builds =
-    let none : (n len : ℕ) → Building.Refused number ≡ Built n len → ⊥ = λ n len e. let z : _≡_ {A = ℕ} 0 1 = cc in omega arith in
+    let none : (n len : ℕ) → BuildingAnswer.Refused number ≡ Built n len → ⊥ = λ n len e. let z : _≡_ {A = ℕ} 0 1 = cc in omega arith in
     record {
-      building = Building.Refused number;
+      building = BuildingAnswer.Refused number;
       verdict = Clean;
       before = [];
       after = [];
@@ -49,12 +49,12 @@ module _ (input out : List ℕ) (m : ℕ) (out′ : List ℕ) where
   pub prints-long : inputLimit < length input → Appended out 0 (refusedLine 1) m out′ → TextIs (Prints input) m out′
   prints-long h done = text-is (Prints input) done (long-prints input h)
 
-  module _ (building : Building) (before after : List ℕ) (few : length input ≤ inputLimit) (room : length before ≡ tableRoom)
+  module _ (building : BuildingAnswer) (before after : List ℕ) (few : length input ≤ inputLimit) (room : length before ≡ tableRoom)
       (built : building ≡ build stateLimit input (length before)) where
     builds : building ≡ build stateLimit input (length (builtTable stateLimit (sheetOf input)))
     builds = built ∙ rw room (room-enough input)
 
-    pub prints-refused : (number : ℕ) → building ≡ Building.Refused number → Appended out 0 (refusedLine number) m out′ → TextIs (Prints input) m out′
+    pub prints-refused : (number : ℕ) → building ≡ BuildingAnswer.Refused number → Appended out 0 (refusedLine number) m out′ → TextIs (Prints input) m out′
     prints-refused number is done = text-is (Prints input) done (refused-prints input number (λ h. absurd (omega arith)) (λ _. sym is ∙ builds))
 
     pub prints-built : (n len : ℕ) (head : Head) → after ≡ buildMemory stateLimit input before → building ≡ Built n len → head ≡ headOf input

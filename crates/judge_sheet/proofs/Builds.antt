@@ -3,13 +3,12 @@ use Prim.Native.Nat.{ℕ, zero, suc, _≤_}
 use mathlib.Core.Path.{_≡_, refl, sym, _∙_}
 use mathlib.Core.List.{List}
 use native.Mathlib.Nat.{le-refl}
-use native.Mathlib.Omega.{arith}
 use lib.ListN.{length, take}
 use borrow.Author.Tests.{le-leb}
 use Rattle.io.proofs.Counting.{front}
 use Rattle.convention.specs.declared.Head.{Head}
-use Rattle.convention.specs.declared.Building.{Building}
-use Rattle.convention.specs.declared.Building.the-variants.{Built}
+use Rattle.convention.specs.declared.BuildingAnswer.{BuildingAnswer}
+use Rattle.convention.specs.declared.BuildingAnswer.the-variants.{Built}
 use Rattle.convention.specs.Numbers.{stateLimit, orElse}
 use Rattle.convention.specs.Fields.{headOf}
 use Rattle.convention.specs.Sheets.{sheetNo, sheetOf}
@@ -17,9 +16,9 @@ use Rattle.convention.specs.Built.{builtStates, builtTable, statesNumber, build
 use Rattle.convention.proofs.Positions.{length-said}
 use Rattle.building.proofs.Readable.{built-head, built-states}
 use Rattle.building.proofs.Bytes.{built-most, built-says, built-readable, bytes-are, bytes-within}
-use Rattle.judge_sheet.specs.Texts.{lineRoom, tableRoom, TableAsks}
+use Rattle.judge_sheet.specs.Texts.{lineRoom, tableRoom, TableLineAsks}
 
--- Two tests in order agree where the later ones agree behind a first that passes.
+-- Two tests in order agree where the later ones agree after a first that passes.
 or-same : (a b c : ℕ) → (a ≡ 0 → b ≡ c) → orElse a b ≡ orElse a c
 or-same zero b c same = same refl
 or-same (suc a) b c same = refl
@@ -43,7 +42,7 @@ module _ (s : List ℕ) where
   room-enough = rw same-no
 
   -- A table that was built is the first `len` bytes of the memory.
-  module _ (before after : List ℕ) (building : Building) (n len : ℕ) (built : building ≡ build stateLimit s (length before))
+  module _ (before after : List ℕ) (building : BuildingAnswer) (n len : ℕ) (built : building ≡ build stateLimit s (length before))
       (memory : after ≡ buildMemory stateLimit s before) (is : building ≡ Built n len) where
     known : build stateLimit s (length before) ≡ Built n len
     known = sym built ∙ is
@@ -58,9 +57,9 @@ module _ (s : List ℕ) where
     table-long = front len after table-within
 
     -- So it can be judged, and its line written.
-    pub table-asks : (head : Head) (out : List ℕ) → head ≡ headOf s → lineRoom ≤ length out → TableAsks n (head .kinds) (take len after) out
+    pub table-line-asks : (head : Head) (out : List ℕ) → head ≡ headOf s → lineRoom ≤ length out → TableLineAsks n (head .kinds) (take len after) out
     unfolding sheetOf
-    table-asks head out h room =
+    table-line-asks head out h room =
         rw table-bytes
         (record {
           readable = built-readable stateLimit s (length before) n len known length-said;

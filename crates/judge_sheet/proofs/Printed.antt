@@ -8,10 +8,10 @@ use native.Mathlib.Omega.{arith}
 use lib.ListN.{length, take}
 use lib.Seq.{length-take-le, take-all}
 use borrow.Author.Tests.{le-leb}
-use Rattle.convention.specs.declared.Building.{Building}
-use Rattle.convention.specs.declared.Building.the-variants.{Built}
-use Rattle.convention.specs.declared.Judging.{Judging}
-use Rattle.convention.specs.declared.Judging.the-variants.{Clean, Fault}
+use Rattle.convention.specs.declared.BuildingAnswer.{BuildingAnswer}
+use Rattle.convention.specs.declared.BuildingAnswer.the-variants.{Built}
+use Rattle.convention.specs.declared.JudgingAnswer.{JudgingAnswer}
+use Rattle.convention.specs.declared.JudgingAnswer.the-variants.{Clean, Fault}
 use Rattle.convention.specs.Numbers.{stateLimit, orElse, judgingSays}
 use Rattle.convention.specs.Sheets.{sheetOf}
 use Rattle.convention.specs.Tables.{tableNo}
@@ -34,21 +34,21 @@ module _ (t : List ℕ) where
     same-number : judgeNo stateLimit t (length before) ≡ judgeNo stateLimit t (length before′)
     same-number = table-number (length before) room ∙ sym (table-number (length before′) room′)
 
-    same-verdict : (a b : Judging) → Judges stateLimit t before a after → Judges stateLimit t before′ b after′
+    same-verdict : (a b : JudgingAnswer) → Judges stateLimit t before a after → Judges stateLimit t before′ b after′
         → (a ≡ b) × (take (judgingSays a .count) after ≡ take (judgingSays b .count) after′)
     unfolding Judges CleanTable
     same-verdict Clean Clean x y = (refl, refl)
     same-verdict Clean (Fault f n) x y = absurd (x .1 _ (y .2 .faulty))
-    same-verdict Clean (Judging.Refused n) x y = absurd (omega (arith, same-number))
+    same-verdict Clean (JudgingAnswer.Refused n) x y = absurd (omega (arith, same-number))
     same-verdict (Fault f n) Clean x y = absurd (y .1 _ (x .2 .faulty))
     same-verdict (Fault f n) (Fault f′ n′) x y =
         let list = first-unique t f f′ (take n after) (take n′ after′) (x .2) (y .2) in
         let count : n ≡ n′ = cc (list, length-take-le n after (omega arith), length-take-le n′ after′ (omega arith)) in
         (cc (x .2 .says, y .2 .says), list)
-    same-verdict (Fault f n) (Judging.Refused n′) x y = absurd (omega (arith, same-number))
-    same-verdict (Judging.Refused n) Clean x y = absurd (omega (arith, same-number))
-    same-verdict (Judging.Refused n) (Fault f′ n′) x y = absurd (omega (arith, same-number))
-    same-verdict (Judging.Refused n) (Judging.Refused n′) x y = (cc same-number, refl)
+    same-verdict (Fault f n) (JudgingAnswer.Refused n′) x y = absurd (omega (arith, same-number))
+    same-verdict (JudgingAnswer.Refused n) Clean x y = absurd (omega (arith, same-number))
+    same-verdict (JudgingAnswer.Refused n) (Fault f′ n′) x y = absurd (omega (arith, same-number))
+    same-verdict (JudgingAnswer.Refused n) (JudgingAnswer.Refused n′) x y = (cc same-number, refl)
 
 -- One text for an input.
 module _ (input a b : List ℕ) (p : Prints input a) (q : Prints input b) where
@@ -59,14 +59,14 @@ module _ (input a b : List ℕ) (p : Prints input a) (q : Prints input b) where
         | no h ↦ p .builds (omega arith) ∙ sym (q .builds (omega arith))
       ]
 
-  same-line : (building : Building) → p .building ≡ building → q .building ≡ building
+  same-line : (building : BuildingAnswer) → p .building ≡ building → q .building ≡ building
       → line (p .building) (sheetOf input .head .kinds) (p .verdict) (take (judgingSays (p .verdict) .count) (p .after))
       ≡ line (q .building) (sheetOf input .head .kinds) (q .verdict) (take (judgingSays (q .verdict) .count) (q .after))
   unfolding line
   same-line (Built n len) e f =
       let same = same-verdict _ _ _ _ _ (p .room n len e) (q .room n len f) _ _ (p .judges n len e) (q .judges n len f) in
       rw (e, f, same .1, same .0)
-  same-line (Building.Refused number) e f = rw (e, f)
+  same-line (BuildingAnswer.Refused number) e f = rw (e, f)
 
   pub one-text : a ≡ b
   one-text = p .prints ∙ same-line (q .building) same-building refl ∙ sym (q .prints)
@@ -85,7 +85,7 @@ read-enough input text p =
 
 -- A table that was built is judged: the line never lacks a verdict.
 pub always-judged : (input text : List ℕ) (p : Prints input text) (n len number : ℕ) → p .building ≡ Built n len
-    → p .verdict ≡ Judging.Refused number → ⊥
+    → p .verdict ≡ JudgingAnswer.Refused number → ⊥
 unfolding Judges
 always-judged input text p n len number e v =
     elim (decLt inputLimit (length input)) [
@@ -93,6 +93,6 @@ always-judged input text p n len number e v =
       | no h ↦
           let t = builtTable stateLimit (sheetOf input) in
           let right = built-readable stateLimit input (length t) n len (sym (p .builds (omega arith)) ∙ e) length-said in
-          let found : Judges stateLimit t (p .before) (Judging.Refused number) (p .after) = rw v at (p .judges n len e) in
+          let found : Judges stateLimit t (p .before) (JudgingAnswer.Refused number) (p .after) = rw v at (p .judges n len e) in
           omega (arith, rw right at (table-number t (length (p .before)) (p .room n len e)), found .0, found .1)
     ]

@@ -11,6 +11,6 @@ use Rattle.judge_sheet.specs.Texts.{TextIs}
 pub text-is : (P : List ℕ → Type 0) {out text : List ℕ} {n : ℕ} {after : List ℕ} → Appended out 0 text n after → P text → TextIs P n after
 text-is P {text = text} {n} {after} done p =
     record {
-      counts = counts n after (omega (arith, done .behind, done .room .fits, as-long done));
-      holds = rw (done .holds, take-at text _ n (omega (arith, done .behind))) p;
+      counts = counts n after (omega (arith, done .ends, done .room .fits, as-long done));
+      holds = rw (done .holds, take-at text _ n (omega (arith, done .ends))) p;
     }

@@ -6,9 +6,9 @@ use mathlib.Core.List.{List}
 use native.Mathlib.Omega.{arith}
 use lib.ListN.{length, take}
 use Rattle.io.proofs.Counting.{front}
-use Rattle.convention.specs.declared.Building.the-variants.{Built}
-use Rattle.convention.specs.declared.Judging.{Judging}
-use Rattle.convention.specs.declared.Judging.the-variants.{Clean, Fault}
+use Rattle.convention.specs.declared.BuildingAnswer.the-variants.{Built}
+use Rattle.convention.specs.declared.JudgingAnswer.{JudgingAnswer}
+use Rattle.convention.specs.declared.JudgingAnswer.the-variants.{Clean, Fault}
 use Rattle.convention.specs.Numbers.{stateLimit, judgingSays}
 use Rattle.convention.specs.Tables.{tableNo, tableOf}
 use Rattle.convention.specs.Lists.{KindsBelow}
@@ -17,20 +17,20 @@ use Rattle.convention.specs.Program.{line}
 use Rattle.convention.proofs.Lists.{below-at, at-below}
 use Rattle.convention.proofs.Tables.{table-read}
 use Rattle.judging.proofs.Unique.{judge-zero}
-use Rattle.line.specs.Appended.{Room, Appended}
+use Rattle.line.specs.Appended.{FieldRoom, Appended}
 use Rattle.line.proofs.Lengths.{line-most}
-use Rattle.judge_sheet.specs.Texts.{listRoom, TextIs, TableAsks, TableLine}
+use Rattle.judge_sheet.specs.Texts.{listRoom, TextIs, TableLineAsks, TableLine}
 use Rattle.judge_sheet.proofs.Faults.{fault-most}
 use Rattle.judge_sheet.proofs.Texts.{text-is}
 
 -- What a verdict says, and the kinds of its list.
-record Small (verdict : Judging) (after : List ℕ) : Type 0 where
+record Small (verdict : JudgingAnswer) (after : List ℕ) : Type 0 where
   fault : judgingSays verdict .fault ≤ 4
   few : judgingSays verdict .count ≤ listRoom
   within : judgingSays verdict .count ≤ length after
   below : KindsBelow 10 (take (judgingSays verdict .count) after)
 
-small : (t before : List ℕ) (verdict : Judging) (after : List ℕ) → tableNo stateLimit t ≡ 0 → Judges stateLimit t before verdict after → Small verdict after
+small : (t before : List ℕ) (verdict : JudgingAnswer) (after : List ℕ) → tableNo stateLimit t ≡ 0 → Judges stateLimit t before verdict after → Small verdict after
 unfolding Judges FaultyList KindsBelow
 small t before Clean after e j = record { fault = omega arith; few = omega arith; within = omega arith; below = tt }
 small t before (Fault fault n) after e j =
@@ -42,10 +42,10 @@ small t before (Fault fault n) after e j =
       within = omega (arith, j .1, j .4, judge-zero stateLimit t (length before) (j .0) .1);
       below = at-below 10 ks λ i h. omega (arith, below-at _ ks (j .2 .faulty .0) i h, read .head .kinds);
     }
-small t before (Judging.Refused number) after e j = record { fault = omega arith; few = omega arith; within = omega arith; below = tt }
+small t before (JudgingAnswer.Refused number) after e j = record { fault = omega arith; few = omega arith; within = omega arith; below = tt }
 
 -- A table with its verdict: n kinds of the list are there, and there is room for the line.
-module _ (states kinds : ℕ) (t out before : List ℕ) (verdict : Judging) (after : List ℕ) (n : ℕ) (asks : TableAsks states kinds t out)
+module _ (states kinds : ℕ) (t out before : List ℕ) (verdict : JudgingAnswer) (after : List ℕ) (n : ℕ) (asks : TableLineAsks states kinds t out)
     (j : Judges stateLimit t before verdict after) (e : n ≡ judgingSays verdict .count) where
   pub list-within : n ≤ length after
   list-within = rw e (small t before verdict after (asks .readable) j .within)
@@ -53,7 +53,7 @@ module _ (states kinds : ℕ) (t out before : List ℕ) (verdict : Judging) (aft
   pub list-long : n ≡ length (take n after)
   list-long = front n after list-within
 
-  pub line-room : Room out 0 (line (Built states (length t)) kinds verdict (take n after))
+  pub line-room : FieldRoom out 0 (line (Built states (length t)) kinds verdict (take n after))
   line-room =
       let s = small t before verdict after (asks .readable) j in
       let read = table-read stateLimit t (asks .readable) in

@@ -4,8 +4,8 @@ use mathlib.Core.Path.{_≡_}
 use mathlib.Core.List.{List}
 use lib.ListN.{length, take}
 use Rattle.io.specs.Counts.{Counts}
-use Rattle.convention.specs.declared.Building.the-variants.{Built}
-use Rattle.convention.specs.declared.Judging.{Judging}
+use Rattle.convention.specs.declared.BuildingAnswer.the-variants.{Built}
+use Rattle.convention.specs.declared.JudgingAnswer.{JudgingAnswer}
 use Rattle.convention.specs.Numbers.{stateLimit, judgingSays}
 use Rattle.convention.specs.Tables.{tableNo, tableOf}
 use Rattle.convention.specs.Built.{builtMost}
@@ -30,7 +30,7 @@ pub record TextIs (P : List ℕ → Type 0) (n : ℕ) (out : List ℕ) : Type 0 
   pub holds : P (take n out)
 
 -- A table that can be read, with its number of states and of kinds, and room for its line.
-pub record TableAsks (states kinds : ℕ) (t out : List ℕ) : Type 0 where
+pub record TableLineAsks (states kinds : ℕ) (t out : List ℕ) : Type 0 where
   pub readable : tableNo stateLimit t ≡ 0
   pub rows : states ≡ tableOf t .states
   pub head : kinds ≡ tableOf t .head .kinds
@@ -38,7 +38,7 @@ pub record TableAsks (states kinds : ℕ) (t out : List ℕ) : Type 0 where
 
 -- The line of a table, of a verdict on it, which was found in memory that was `before` and is `after`.
 pub record TableLine (states kinds : ℕ) (t text : List ℕ) : Type 0 where
-  pub verdict : Judging
+  pub verdict : JudgingAnswer
   pub before : List ℕ
   pub after : List ℕ
   pub room : judgeRoom t ≤ length before

@@ -1,7 +1,7 @@
 // The program of document 01, 'The program': reads one sheet from standard input, builds its table, judges it and prints one
 // line. What that line means is `Prints`, crates/convention/specs/Program.antt.
-use convention::Building;
-use convention::Judging;
+use convention::BuildingAnswer;
+use convention::JudgingAnswer;
 use libc::STDIN_FILENO;
 use libc::STDOUT_FILENO;
 ghost use mathlib.Core.Path.{_≡_};
@@ -9,7 +9,7 @@ ghost use Prim.Native.Nat.{_≤_};
 ghost use lib.ListN.{length};
 ghost use Rattle.convention.specs.Numbers.{judgingSays};
 ghost use Rattle.convention.specs.Program.{Prints};
-ghost use Rattle.judge_sheet.specs.Texts.{lineRoom, TextIs, TableAsks, TableLine};
+ghost use Rattle.judge_sheet.specs.Texts.{lineRoom, TextIs, TableLineAsks, TableLine};
 
 // `inputLimit`: the most bytes of an input that is looked at.
 const INPUT_LIMIT: usize = 1024;
@@ -21,25 +21,25 @@ const LIST_ROOM: usize = 400;
 const LINE_ROOM: usize = 818;
 
 // How many kinds the verdict's list has.
-fn list_length(verdict: Judging) -> usize
+fn list_length(verdict: JudgingAnswer) -> usize
     ensures { λ n. ⌜ n ≡ judgingSays verdict .count ⌝ }
 {
     match verdict {
-        Judging::Clean => 0,
-        Judging::Fault(_, n) => n,
-        Judging::Refused(_) => 0,
+        JudgingAnswer::Clean => 0,
+        JudgingAnswer::Fault(_, n) => n,
+        JudgingAnswer::Refused(_) => 0,
     }
 }
 
 // Judges a table that was built and writes its line. Answers how long it is.
 fn table_line(states: u16, kinds: u8, table: &[u8], out: &mut [u8]) -> usize
-    requires { ⌜ TableAsks states kinds (now table) (now out) ⌝ }
+    requires { ⌜ TableLineAsks states kinds (now table) (now out) ⌝ }
     ensures { λ n. ⌜ TextIs (TableLine states kinds (now (table .entry))) n (now (out .exit)) ⌝ }
 {
     let mut list = [0u8; LIST_ROOM];
     let verdict = judging::judge(table, &mut list);
     let n = list_length(verdict);
-    let building = Building::Built(states, table.len());
+    let building = BuildingAnswer::Built(states, table.len());
     line::write_line(building, kinds, verdict, &list[..n], out)
 }
 
@@ -55,8 +55,8 @@ fn answer(input: &[u8], out: &mut [u8]) -> usize
     let mut table = [0u8; TABLE_ROOM];
     let building = building::build(input, &mut table);
     match building {
-        Building::Built(states, len) => table_line(states, kinds, &table[..len], out),
-        Building::Refused(number) => line::write_refused(number, out),
+        BuildingAnswer::Built(states, len) => table_line(states, kinds, &table[..len], out),
+        BuildingAnswer::Refused(number) => line::write_refused(number, out),
     }
 }
 

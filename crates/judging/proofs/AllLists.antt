@@ -17,7 +17,7 @@ unfoldable pub All : (List ℕ → Type 0) → List (List ℕ) → Type 0
 All P [] = Unit {0}
 All P (ks ∷ lists) = P ks × All P lists
 
--- Each is before those behind it.
+-- Each is before those after it.
 unfoldable pub Rising : List (List ℕ) → Type 0
 Rising [] = Unit {0}
 Rising (ks ∷ lists) = All (Before ks) lists × Rising lists
@@ -105,7 +105,7 @@ cons-before : (k j : ℕ) (a b : List ℕ) → k < j → length a ≡ length b �
 unfolding Before Earlier
 cons-before k j a b h e = inr (omega arith, inl h)
 
--- Lists in order, and behind them others in order that are behind each.
+-- Lists in order, followed by others in order that are after each of them.
 rising-append : (a b : List (List ℕ)) → Rising a → Rising b → All (λ ks. All (Before ks) b) a → Rising (a ++ b)
 unfolding Rising All
 rising-append [] b x y z = y

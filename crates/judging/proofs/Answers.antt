@@ -10,8 +10,8 @@ use borrow.Author.Tests.{lt-leb}
 use Rattle.convention.specs.declared.Table.{Table}
 use Rattle.convention.specs.declared.TableAnswer.{TableAnswer}
 use Rattle.convention.specs.declared.Reading.{Reading}
-use Rattle.convention.specs.declared.Judging.{Judging}
-use Rattle.convention.specs.declared.Judging.the-variants.{Clean, Fault}
+use Rattle.convention.specs.declared.JudgingAnswer.{JudgingAnswer}
+use Rattle.convention.specs.declared.JudgingAnswer.the-variants.{Clean, Fault}
 use Rattle.convention.specs.Numbers.{stateLimit, reading}
 use Rattle.convention.specs.Tables.{tableNo, tableOf, readTable}
 use Rattle.convention.specs.Lists.{faultFrom}
@@ -21,7 +21,7 @@ use Rattle.convention.specs.Promised.{TableRead}
 use Rattle.convention.proofs.Numbers.{or-here}
 use Rattle.convention.proofs.Lists.{below-known}
 use Rattle.convention.proofs.Tables.{table-read, table-right, table-is, table-refused, table-wrong}
-use Rattle.walking.specs.Asked.{KnownAsks, walkBegin}
+use Rattle.walking.specs.TableSteps.{KnownAsks, walkBegin}
 use Rattle.judging.specs.Watched.{nodes, LeastBelow}
 use Rattle.judging.specs.Memory.{bestEnd, listAt}
 use Rattle.judging.specs.Found.{FindAsks, BestIs, JudgeAsks}
@@ -110,7 +110,7 @@ module _ (table : Table) (t before out : List ℕ) (asks : JudgeAsks table t bef
 
 module _ (t : List ℕ) (a : TableAnswer) (ea : a ≡ readTable stateLimit t) (out : List ℕ) where
   -- It refuses.
-  pub judge-refused : (n : ℕ) → a .reading ≡ Reading.Refused n → Judges stateLimit t out (Judging.Refused n) out
+  pub judge-refused : (n : ℕ) → a .reading ≡ Reading.Refused n → Judges stateLimit t out (JudgingAnswer.Refused n) out
   unfolding Judges judgeNo
   judge-refused n e =
       let some = table-wrong stateLimit t a ea n e in
@@ -125,12 +125,12 @@ module _ (t : List ℕ) (a : TableAnswer) (ea : a ≡ readTable stateLimit t) (o
     is = table-is stateLimit t a ea e
 
     -- There is too little room for the list,
-    pub judge-short : length out < 2 * a .table .states → Judges stateLimit t out (Judging.Refused 12) out
+    pub judge-short : length out < 2 * a .table .states → Judges stateLimit t out (JudgingAnswer.Refused 12) out
     unfolding Judges judgeNo
     judge-short h = (rw (right, ← is, lt-leb _ _ h), lit< tt, refl)
 
     -- or enough; and the working memory is enough for every table.
-    pub judge-asks : (work : List ℕ) → 2 * a .table .states ≤ length out → length work ≡ 3200 → JudgeAsks (a .table) t work out
+    pub judge-asks : (work : List ℕ) → 2 * a .table .states ≤ length out → length work ≡ bestEnd (2 * stateLimit) → JudgeAsks (a .table) t work out
     judge-asks work h l =
         let promised : TableRead stateLimit (a .table) t = rw is (table-read stateLimit t right) in
         record { right = right; is = is; room = omega (arith, promised .states); fits = h }

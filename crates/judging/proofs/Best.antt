@@ -39,35 +39,35 @@ abbrev register : ℕ → Reg
 register i = record { 0 = i }
 
 -- The best before register i.
-module _ (table : Table) (t : List ℕ) (i best : ℕ) (work : List ℕ) (left : BestIs table t i best work) where
+module _ (table : Table) (t : List ℕ) (i best : ℕ) (work : List ℕ) (half : BestIs table t i best work) where
   -- The register can be watched.
   pub best-finds : TableRead stateLimit table t → FindAsks table t work
-  best-finds read = record { read = read; room = left .room }
+  best-finds read = record { read = read; room = half .room }
 
   module _ (found : ℕ) (mid : List ℕ) (find : FindIs table t (Register (register i)) work found mid) (long : length mid ≡ length work) where
     -- What is found there can be compared with the best.
     pub best-lists : ListsAsk (nodes table) mid found best
-    best-lists = record { room = room-stays (nodes table) work mid (left .room) long; short = find .short; short-best = left .short }
+    best-lists = record { room = room-stays (nodes table) work mid (half .room) long; short = find .short; short-best = half .short }
 
     same-best : listAt mid (bestEnd (nodes table)) best ≡ listAt work (bestEnd (nodes table)) best
     same-best =
-        slice-same (foundEnd (nodes table)) (bestEnd (nodes table) - best) (bestEnd (nodes table)) mid work (omega (arith, left .short)) (find .best)
+        slice-same (foundEnd (nodes table)) (bestEnd (nodes table) - best) (bestEnd (nodes table)) mid work (omega (arith, half .short)) (find .best)
 
     -- One more register: the best stays, or is what was found.
     stays : Stays (nodes table) mid found best best mid → BestIs table t (i + 1) best mid
     stays s = elim (s .why) [
       | inl z ↦ record {
-        none = λ e. none-on table t (register i) (left .none e) (find .none z);
-        some = λ p. rw same-best (least-on table t (register i) _ (left .some p) (find .none z));
-        short = left .short;
+        none = λ e. none-on table t (register i) (half .none e) (find .none z);
+        some = λ p. rw same-best (least-on table t (register i) _ (half .some p) (find .none z));
+        short = half .short;
         room = best-lists .room;
       }
       | inr (some, was, after) ↦
           let (j, k, hit, list) = find .some some in
           record {
             none = λ e. absurd (omega arith);
-            some = λ p. rw same-best (least-kept table t (register i) _ (left .some p) j k hit (rw (same-best, list) at after));
-            short = left .short;
+            some = λ p. rw same-best (least-kept table t (register i) _ (half .some p) j k hit (rw (same-best, list) at after));
+            short = half .short;
             room = best-lists .room;
           }
     ]
@@ -78,8 +78,8 @@ module _ (table : Table) (t : List ℕ) (i best : ℕ) (work : List ℕ) (left :
         record {
           none = λ e. absurd (omega (arith, s .some));
           some = λ _. rw (s .list, list) (elim (s .why) [
-            | inl z ↦ least-new table t (register i) (left .none z) j k hit
-            | inr (was, before) ↦ least-changed table t (register i) _ (left .some was) j k hit (rw (same-best, list) at before)
+            | inl z ↦ least-new table t (register i) (half .none z) j k hit
+            | inr (was, before) ↦ least-changed table t (register i) _ (half .some was) j k hit (rw (same-best, list) at before)
           ]);
           short = find .short;
           room = room-stays (nodes table) mid after (best-lists .room) long′;
@@ -95,4 +95,4 @@ module _ (table : Table) (t : List ℕ) (i best : ℕ) (work : List ℕ) (left :
 -- After the last register.
 pub best-end : (table : Table) (t : List ℕ) (i best : ℕ) (work : List ℕ) → BestIs table t i best work
     → i ≤ table .head .registers → table .head .registers ≤ i → BestIs table t (table .head .registers) best work
-best-end table t i best work left h l = let last : i ≡ table .head .registers = omega arith in rw last at left
+best-end table t i best work half h l = let last : i ≡ table .head .registers = omega arith in rw last at half

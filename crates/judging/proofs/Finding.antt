@@ -101,7 +101,7 @@ module _ (table : Table) (t : List ℕ) (watch : Watch) (before : List ℕ) (ask
     find-searches = record { read = asks .read; holds = is .start (watchedSteps table t watch) }
 
     module _ (i k : ℕ) (work : List ℕ) (searched : SearchIs table t watch start i k work) where
-      -- The best list is left.
+      -- The best list is untouched.
       best-stays : drop (foundEnd (nodes table)) work ≡ drop (foundEnd (nodes table)) before
       best-stays =
           let same = searched .lists ∙ is .others in

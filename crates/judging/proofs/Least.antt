@@ -13,7 +13,7 @@ use Rattle.judging.specs.declared.steps.Watch.{Watch}
 use Rattle.judging.specs.declared.steps.Watch.the-variants.{Register, Nothing}
 use Rattle.judging.specs.Watched.{FirstHit, NoHit, hitList, WatchedBelow, NoHitBelow, LeastBelow}
 
--- What holds where nothing is watched holds before the first register is; and what holds before r, and where r is watched, holds behind it.
+-- What holds where nothing is watched holds before the first register is; and what holds before r, and where r is watched, holds after it.
 watched-first : (P : Watch → Type 0) → P Nothing → (watch : Watch) → WatchedBelow 0 watch → P watch
 unfolding WatchedBelow
 watched-first P p (Register r) h = absurd (omega arith)

@@ -1,5 +1,5 @@
 -- Comparing the two lists of the working memory and keeping one, on plain values: one turn of each loop.
-use Prim.Native.Nat.{ℕ, suc, _+_, _-_, _*_, _≤_, _<_}
+use Prim.Native.Nat.{ℕ, suc, _+_, _-_, _≤_, _<_}
 use native.Mathlib.Numerals.{add-one}
 use native.Mathlib.Omega.{arith}
 use mathlib.Core.Path.{_≡_, refl, sym, ap, ap₂, _∙_}
@@ -33,10 +33,10 @@ module _ (nodes : ℕ) (work : List ℕ) (found best : ℕ) (asks : ListsAsk nod
   }
 
   -- Lists of one length, before the first kind.
-  pub compare-begin : found ≡ best → Comparing nodes work found best (7 * nodes - found)
+  pub compare-begin : found ≡ best → Comparing nodes work found best (foundEnd nodes - found)
   unfolding Before
   compare-begin e =
-      let place : 7 * nodes - found + nodes ≡ 8 * nodes - best = omega (arith, asks .short) in
+      let place : foundEnd nodes - found + nodes ≡ bestEnd nodes - best = omega (arith, asks .short) in
       let same : length (listAt work (foundEnd nodes) found) ≡ length (listAt work (bestEnd nodes) best) = rw (long-found, long-best) e in
       record {
         within = omega arith;
@@ -44,18 +44,18 @@ module _ (nodes : ℕ) (work : List ℕ) (found best : ℕ) (asks : ListsAsk nod
         no = rw place (⊎-map (λ q. q) (λ l. inr (sym same, l)));
       }
 
-  module _ (at : ℕ) (left : Comparing nodes work found best at) where
-    -- Behind the last kind.
-    pub compare-end : 7 * nodes ≤ at → CompareIs nodes work found best false
+  module _ (at : ℕ) (half : Comparing nodes work found best at) where
+    -- After the last kind.
+    pub compare-end : foundEnd nodes ≤ at → CompareIs nodes work found best false
     compare-end h =
-        let here : at ≡ 7 * nodes = omega (arith, left .within) in
-        let there : 7 * nodes + nodes ≡ 8 * nodes = omega arith in
+        let here : at ≡ foundEnd nodes = omega (arith, half .within) in
+        let there : foundEnd nodes + nodes ≡ bestEnd nodes = omega arith in
         record {
           yes = λ e. absurd (false≢true e);
-          no = λ _. left .no (inl (rw (here, there, slice-empty (foundEnd nodes) work, slice-empty (bestEnd nodes) work)));
+          no = λ _. half .no (inl (rw (here, there, slice-empty (foundEnd nodes) work, slice-empty (bestEnd nodes) work)));
         }
 
-    module _ (h : at < 7 * nodes) where
+    module _ (h : at < foundEnd nodes) where
       -- The next kinds.
       next-found : slice at (foundEnd nodes) work ≡ getD work at 0 ∷ slice (at + 1) (foundEnd nodes) work
       next-found = rw add-one (slice-cons at (foundEnd nodes) work 0 h (omega (arith, asks .room .bytes)))
@@ -70,8 +70,8 @@ module _ (nodes : ℕ) (work : List ℕ) (found best : ℕ) (asks : ListsAsk nod
           → CompareIs nodes work found best (ltb (getD work at 0) (getD work (at + nodes) 0))
       unfolding Earlier
       compare-hit n = record {
-        yes = λ e. left .yes (rw (next-found, next-best) (inl (ltb-true _ _ e)));
-        no = λ e. left .no (inr (rw (next-found, next-best) (inl (omega (arith, n, ltb-false (getD work at 0) (getD work (at + nodes) 0) e)))));
+        yes = λ e. half .yes (rw (next-found, next-best) (inl (ltb-true _ _ e)));
+        no = λ e. half .no (inr (rw (next-found, next-best) (inl (omega (arith, n, ltb-false (getD work at 0) (getD work (at + nodes) 0) e)))));
       }
 
       -- They are the same.
@@ -79,8 +79,8 @@ module _ (nodes : ℕ) (work : List ℕ) (found best : ℕ) (asks : ListsAsk nod
       unfolding Earlier
       compare-turn e = record {
         within = omega arith;
-        yes = λ l. left .yes (rw (next-found, next-best) (inr (e, l)));
-        no = λ o. left .no (rw (next-found, next-best) (⊎-map (ap₂ _∷_ (sym e)) (λ l. inr (sym e, l)) o));
+        yes = λ l. half .yes (rw (next-found, next-best) (inr (e, l)));
+        no = λ o. half .no (rw (next-found, next-best) (⊎-map (ap₂ _∷_ (sym e)) (λ l. inr (sym e, l)) o));
       }
 
 -- ---- keeping the list found
@@ -95,49 +95,49 @@ module _ (nodes : ℕ) (before : List ℕ) (found : ℕ) (asks : KeepAsks nodes 
   -- Once it is kept the best is that list.
   pub kept-list : listAt (kept nodes before found) (bestEnd nodes) found ≡ list
   kept-list =
-      let front : 8 * nodes - found ≤ length before = omega (arith, asks .room .bytes) in
-      let end : 8 * nodes ≡ 8 * nodes - found + found = omega (arith, asks .short) in
-      ap (λ (n : ℕ). drop (8 * nodes - found) (take n (kept nodes before found))) end
-      ∙ rw (take-paste before (8 * nodes - found) list found front (omega (arith, long-list)))
-      (drop-at (take (8 * nodes - found) before) _ _ (length-take-le _ before front) ∙ take-all found list (omega (arith, long-list)))
+      let front : bestEnd nodes - found ≤ length before = omega (arith, asks .room .bytes) in
+      let end : bestEnd nodes ≡ bestEnd nodes - found + found = omega (arith, asks .short) in
+      ap (λ (n : ℕ). drop (bestEnd nodes - found) (take n (kept nodes before found))) end
+      ∙ rw (take-paste before (bestEnd nodes - found) list found front (omega (arith, long-list)))
+      (drop-at (take (bestEnd nodes - found) before) _ _ (length-take-le _ before front) ∙ take-all found list (omega (arith, long-list)))
 
   -- No kind is copied yet.
-  pub keep-begin : before ≡ paste before (8 * nodes - found) list 0
-  keep-begin = paste-zero before (8 * nodes - found) list
+  pub keep-begin : before ≡ paste before (bestEnd nodes - found) list 0
+  keep-begin = paste-zero before (bestEnd nodes - found) list
 
-  module _ (i : ℕ) (work : List ℕ) (left : work ≡ paste before (8 * nodes - found) list i) (h : i ≤ found) where
+  module _ (i : ℕ) (work : List ℕ) (half : work ≡ paste before (bestEnd nodes - found) list i) (h : i ≤ found) where
     -- The memory is as long as before.
     pub keep-long : length work ≡ length before
-    keep-long = ap length left ∙ length-paste before (8 * nodes - found) list i (omega (arith, asks .room .bytes)) (omega (arith, long-list))
+    keep-long = ap length half ∙ length-paste before (bestEnd nodes - found) list i (omega (arith, asks .room .bytes)) (omega (arith, long-list))
 
     -- Every kind is copied.
     pub keep-end : found ≤ i → work ≡ kept nodes before found
-    keep-end l = let all : i ≡ found = omega arith in rw all at left
+    keep-end l = let all : i ≡ found = omega arith in rw all at half
 
   -- One more kind: it is there, and so is its place.
-  module _ (i : ℕ) (work : List ℕ) (left : work ≡ paste before (8 * nodes - found) list i) (h : i < found) where
-    pub keep-read : 7 * nodes - found + i < length work
-    keep-read = omega (arith, keep-long i work left (omega arith), asks .room .bytes, asks .short)
+  module _ (i : ℕ) (work : List ℕ) (half : work ≡ paste before (bestEnd nodes - found) list i) (h : i < found) where
+    pub keep-read : foundEnd nodes - found + i < length work
+    keep-read = omega (arith, keep-long i work half (omega arith), asks .room .bytes, asks .short)
 
-    pub keep-write : 8 * nodes - found + i < length work
-    keep-write = omega (arith, keep-long i work left (omega arith), asks .room .bytes, asks .short)
+    pub keep-write : bestEnd nodes - found + i < length work
+    keep-write = omega (arith, keep-long i work half (omega arith), asks .room .bytes, asks .short)
 
-    pub keep-turn : set work (8 * nodes - found + i) (getD work (7 * nodes - found + i) 0) ≡ paste before (8 * nodes - found) list (i + 1)
+    pub keep-turn : set work (bestEnd nodes - found + i) (getD work (foundEnd nodes - found + i) 0) ≡ paste before (bestEnd nodes - found) list (i + 1)
     keep-turn =
-        rw (here, left, add-one)
-        (paste-suc before (8 * nodes - found) list i 0 (omega (arith, asks .room .bytes, asks .short)) (omega (arith, long-list)))
+        rw (here, half, add-one)
+        (paste-suc before (bestEnd nodes - found) list i 0 (omega (arith, asks .room .bytes, asks .short)) (omega (arith, long-list)))
       where
-        here : getD work (7 * nodes - found + i) 0 ≡ getD list i 0
+        here : getD work (foundEnd nodes - found + i) 0 ≡ getD list i 0
         here =
-            let front : 7 * nodes - found + i < length (take (8 * nodes - found) before) =
-            rw (length-take-le (8 * nodes - found) before (omega (arith, asks .room .bytes))) (omega (arith, asks .short)) in
+            let front : foundEnd nodes - found + i < length (take (bestEnd nodes - found) before) =
+            rw (length-take-le (bestEnd nodes - found) before (omega (arith, asks .room .bytes))) (omega (arith, asks .short)) in
             rw (
-              left,
-              List·getD-append (take (8 * nodes - found) before ++ take i list) _ 0 (7 * nodes - found + i) (rw length-append (omega arith)),
-              List·getD-append (take (8 * nodes - found) before) _ 0 (7 * nodes - found + i) front,
-              getD-take (8 * nodes - found) before (7 * nodes - found + i) 0 (omega (arith, asks .short)),
+              half,
+              List·getD-append (take (bestEnd nodes - found) before ++ take i list) _ 0 (foundEnd nodes - found + i) (rw length-append (omega arith)),
+              List·getD-append (take (bestEnd nodes - found) before) _ 0 (foundEnd nodes - found + i) front,
+              getD-take (bestEnd nodes - found) before (foundEnd nodes - found + i) 0 (omega (arith, asks .short)),
               getD-drop,
-              getD-take (foundEnd nodes) before (7 * nodes - found + i) 0 (omega (arith, asks .short)),
+              getD-take (foundEnd nodes) before (foundEnd nodes - found + i) 0 (omega (arith, asks .short)),
             )
 
 -- ---- the better of the two

@@ -14,7 +14,7 @@ use Rattle.convention.specs.Numbers.{stateLimit}
 use Rattle.convention.specs.Tables.{tableKind, transition}
 use Rattle.convention.specs.Rules.{noRegisters}
 use Rattle.convention.specs.Walked.{tableFault}
-use Rattle.walking.specs.Asked.{FaultAsks}
+use Rattle.walking.specs.TableSteps.{FaultAsks}
 use Rattle.walking.proofs.Steps.{fault-asks}
 use Rattle.judging.specs.declared.steps.Watch.{Watch}
 use Rattle.judging.specs.declared.steps.Watch.the-variants.{Register, Nothing}

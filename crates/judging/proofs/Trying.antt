@@ -8,8 +8,8 @@ use mathlib.Core.Logic.{_⊎_, inl, inr, ⊎-map}
 use mathlib.Core.List.{List, [], _∷_, _++_}
 use lib.ListN.{length, drop, length-append, length-drop}
 use lib.Seq.{take-append-seam, drop-append-seam}
-use Rattle.convention.specs.declared.Judging.{Judging}
-use Rattle.convention.specs.declared.Judging.the-variants.{Clean, Fault}
+use Rattle.convention.specs.declared.JudgingAnswer.{JudgingAnswer}
+use Rattle.convention.specs.declared.JudgingAnswer.the-variants.{Clean, Fault}
 use Rattle.convention.specs.Tables.{tableNo, tableOf}
 use Rattle.convention.specs.Lists.{Steps, faultFrom, KindsBelow}
 use Rattle.convention.specs.Walked.{byTable}
@@ -108,7 +108,7 @@ module _ (limit : ℕ) (t : List ℕ) (read : TableRead limit (tableOf t) t) whe
       let (ks′, (known, faulty), short) = bound limit t read ks f in
       omega (arith, short-all t _ (n .none) ks′ (known, short))
 
--- Judging may give that answer, with the list in the first bytes and the others left,
+-- Judging may give that answer, with the list in the first bytes and the others untouched,
 pub trying-judges : (limit : ℕ) (t out : List ℕ) → judgeNo limit t (length out) ≡ 0
     → Judges limit t out (verdictByTrying t .answer) (verdictByTrying t .list ++ drop (length (verdictByTrying t .list)) out)
 unfolding Judges
@@ -128,6 +128,6 @@ trying-judges limit t out e = elim (tried t) [
 
 -- and no other.
 pub judges-trying : (limit : ℕ) (t out : List ℕ) → judgeNo limit t (length out) ≡ 0
-    → (answer : Judging) (out′ : List ℕ) → Judges limit t out answer out′
+    → (answer : JudgingAnswer) (out′ : List ℕ) → Judges limit t out answer out′
     → (answer ≡ verdictByTrying t .answer) × (out′ ≡ verdictByTrying t .list ++ drop (length (verdictByTrying t .list)) out)
 judges-trying limit t out e answer out′ j = unique limit t out answer _ out′ _ j (trying-judges limit t out e)

@@ -9,8 +9,8 @@ use lib.Dec.{lit<}
 use lib.ListN.{length, take, take-append-drop}
 use lib.Seq.{length-take-le}
 use borrow.Author.Tests.{leb-true, le-leb}
-use Rattle.convention.specs.declared.Judging.{Judging}
-use Rattle.convention.specs.declared.Judging.the-variants.{Clean, Fault}
+use Rattle.convention.specs.declared.JudgingAnswer.{JudgingAnswer}
+use Rattle.convention.specs.declared.JudgingAnswer.the-variants.{Clean, Fault}
 use Rattle.convention.specs.Tables.{tableNo}
 use Rattle.convention.specs.Judged.{CleanTable, FirstFaulty, judgeRoom, judgeNo, Judges}
 use Rattle.convention.proofs.Numbers.{or-zero, or-on, unless-zero, unless-true}
@@ -34,19 +34,19 @@ first-unique t f f′ ks ks′ x y = elim (before-total ks ks′) [
 ]
 
 -- Two answers that judging may give are the same, and so is the lent memory.
-pub unique : (limit : ℕ) (t out : List ℕ) (a b : Judging) (o o′ : List ℕ) → Judges limit t out a o → Judges limit t out b o′
+pub unique : (limit : ℕ) (t out : List ℕ) (a b : JudgingAnswer) (o o′ : List ℕ) → Judges limit t out a o → Judges limit t out b o′
     → (a ≡ b) × (o ≡ o′)
 unfolding Judges CleanTable
 unique limit t out Clean Clean o o′ x y = (refl, cc)
 unique limit t out Clean (Fault f n) o o′ x y = absurd (x .1 _ (y .2 .faulty))
-unique limit t out Clean (Judging.Refused n) o o′ x y = absurd (omega arith)
+unique limit t out Clean (JudgingAnswer.Refused n) o o′ x y = absurd (omega arith)
 unique limit t out (Fault f n) Clean o o′ x y = absurd (y .1 _ (x .2 .faulty))
 unique limit t out (Fault f n) (Fault f′ n′) o o′ x y =
     let fits = judge-zero limit t (length out) (x .0) in
     let list = first-unique t f f′ (take n o) (take n′ o′) (x .2) (y .2) in
     let count : n ≡ n′ = cc (list, length-take-le n o (omega arith), length-take-le n′ o′ (omega arith)) in
     (cc (x .2 .says, y .2 .says), cc (x .3, y .3, take-append-drop n o, take-append-drop n′ o′))
-unique limit t out (Fault f n) (Judging.Refused n′) o o′ x y = absurd (omega arith)
-unique limit t out (Judging.Refused n) Clean o o′ x y = absurd (omega arith)
-unique limit t out (Judging.Refused n) (Fault f′ n′) o o′ x y = absurd (omega arith)
-unique limit t out (Judging.Refused n) (Judging.Refused n′) o o′ x y = (cc, cc)
+unique limit t out (Fault f n) (JudgingAnswer.Refused n′) o o′ x y = absurd (omega arith)
+unique limit t out (JudgingAnswer.Refused n) Clean o o′ x y = absurd (omega arith)
+unique limit t out (JudgingAnswer.Refused n) (Fault f′ n′) o o′ x y = absurd (omega arith)
+unique limit t out (JudgingAnswer.Refused n) (JudgingAnswer.Refused n′) o o′ x y = (cc, cc)

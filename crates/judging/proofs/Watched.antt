@@ -24,7 +24,7 @@ use Rattle.convention.specs.Explored.{met, Leads}
 use Rattle.convention.specs.Scanned.{Tree, Scanned}
 use Rattle.convention.specs.Promised.{TableRead}
 use Rattle.convention.proofs.Numbers.{or-zero, unless-zero}
-use Rattle.convention.proofs.Tables.{transition-registers, transition-next}
+use Rattle.convention.proofs.Promised.{known-run, known-next}
 use Rattle.convention.proofs.Runs.{either, free-some, none-taken}
 use Rattle.convention.proofs.Walked.{step-gives}
 use Rattle.convention.proofs.Lists.{holds-along, below-snoc}
@@ -147,7 +147,7 @@ none-among Nothing = refl
 
 -- ---- the two walks
 
--- The fault of a list in the walk by a table, and the state behind it.
+-- The fault of a list in the walk by a table, and the state after it.
 abbrev pub walkFault : Table → List ℕ → List ℕ → ℕ
 walkFault table t ks = faultFrom (byTable table t) (byTable table t .begin) ks
 
@@ -162,19 +162,10 @@ pub record EndsFaulty (table : Table) (t : List ℕ) (watch : Watch) (ks : List 
   pub faulty : 0 < nodeFault table t watch node k
 
 module _ (limit : ℕ) (table : Table) (t : List ℕ) (read : TableRead limit table t) where
-  -- What the reader promises of kind k's transition at a state.
-  module _ (state k : ℕ) (known : state < table .states) (below : k < table .head .kinds) where
-    next-known : transition table t state k .next < table .states
-    next-known = transition-next (table .head) (table .states) (transition table t state k) (read .transition state k known below) (read .some)
-
-    run-within : transition table t state k .form ≡ 1
-        → transition table t state k .a + transition table t state k .b ≤ table .head .registers
-    run-within = transition-registers (table .head) (table .states) (transition table t state k) (read .transition state k known below)
-
   -- A step leads to a node below 2N,
   pub after-below : (watch : Watch) (node k : ℕ) → node < nodes table → k < table .head .kinds → nodeAfter table t watch node k < nodes table
   unfolding nodeAfter
-  after-below watch node k h below = node-below _ (nodeFlag node || givesWatched _ watch) (table .states) (next-known (nodeState node) k (omega arith) below)
+  after-below watch node k h below = node-below _ (nodeFlag node || givesWatched _ watch) (table .states) (known-next limit table t read k below (nodeState node) (omega arith))
 
   -- which bounds the nodes that are met;
   pub watched-bounded : (watch : Watch) → Bounded (watchedSteps table t watch) (nodes table)
@@ -190,9 +181,9 @@ module _ (limit : ℕ) (table : Table) (t : List ℕ) (read : TableRead limit ta
   unfolding nodeAfter
   step-tied s w k below watch =
       rw (node-state, node-flag)
-      (node-after (table .head) (transition table t (s .state) k) s (λ f. omega (arith, run-within (s .state) k (w .known) below f)) watch)
+      (node-after (table .head) (transition table t (s .state) k) s (λ f. omega (arith, known-run limit table t read k below (s .state) (w .known) f)) watch)
 
-  -- So it leads along every list without a fault, to the node of the state behind it.
+  -- So it leads along every list without a fault, to the node of the state after it.
   tied : (watch : Watch) (s : ByTable) (ks : List ℕ) → Walking table s → KindsBelow (table .head .kinds) ks → faultFrom (byTable table t) s ks ≡ 0
       → Leads (watched table t watch) (nodeAt watch s) ks (nodeAt watch (stateFrom (byTable table t) s ks))
   unfolding Leads KindsBelow faultFrom stateFrom
@@ -217,7 +208,7 @@ module _ (limit : ℕ) (table : Table) (t : List ℕ) (read : TableRead limit ta
       let w =
       holds-along (byTable table t) (Walking table) (table .head .kinds) (λ s k w b _. step-walking limit table t read s k w b) _ ks
       (begin-walking limit table t read) known e in
-      let (watch, among, faulty) = step-watched (table .head) (tableKind table k) x (s .given) (run-within (s .state) k (w .known) below) f in
+      let (watch, among, faulty) = step-watched (table .head) (tableKind table k) x (s .given) (known-run limit table t read k below (s .state) (w .known)) f in
       (watch, among, record { node = nodeAt watch s; leads = tied-along watch ks known e; below = below; faulty = rw (node-fault table t watch s k) faulty })
 
   -- and a list that ends faulty in a watched walk is faulty, at its last step or before.

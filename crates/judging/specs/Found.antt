@@ -1,5 +1,5 @@
 -- What is found by one search, and the best of several.
-use Prim.Native.Nat.{ℕ, _*_, _≤_, _<_}
+use Prim.Native.Nat.{ℕ, _≤_, _<_}
 use mathlib.Core.Path.{_≡_}
 use mathlib.Core.List.{List}
 use lib.ListN.{length, drop}
@@ -16,7 +16,7 @@ pub record FindAsks (table : Table) (t work : List ℕ) : Type 0 where
   pub read : TableRead stateLimit table t
   pub room : SearchRoom (nodes table) work
 
--- The list of the first hit is found, of n kinds; nothing hits where n is 0. The best list is left.
+-- The list of the first hit is found, of n kinds; nothing hits where n is 0. The best list is untouched.
 pub record FindIs (table : Table) (t : List ℕ) (watch : Watch) (before : List ℕ) (n : ℕ) (after : List ℕ) : Type 0 where
   pub none : n ≡ 0 → NoHit table t watch
   pub some : 0 < n → (i k : ℕ) × FirstHit table t watch i k × (listAt after (foundEnd (nodes table)) n ≡ hitList table t watch i k)
@@ -34,5 +34,5 @@ pub record BestIs (table : Table) (t : List ℕ) (upTo n : ℕ) (work : List ℕ
 pub record JudgeAsks (table : Table) (t work out : List ℕ) : Type 0 where
   pub right : tableNo stateLimit t ≡ 0
   pub is : table ≡ tableOf t
-  pub room : 8 * nodes table ≤ length work
+  pub room : bestEnd (nodes table) ≤ length work
   pub fits : nodes table ≤ length out

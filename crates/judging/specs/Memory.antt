@@ -6,12 +6,19 @@ use lib.ListN.{length}
 use lib.Seq.{slice}
 use Rattle.exploring.specs.Memory.{wordLimit, pairKinds}
 
+-- How many bytes there are for each node up to the end of the list found last, and in all.
+abbrev pub foundBytes : ℕ
+foundBytes = 7
+
+abbrev pub workBytes : ℕ
+workBytes = 8
+
 -- Where the bytes of the list found last and of the best end.
 abbrev pub foundEnd : ℕ → ℕ
-foundEnd nodes = 7 * nodes
+foundEnd nodes = foundBytes * nodes
 
 abbrev pub bestEnd : ℕ → ℕ
-bestEnd nodes = 8 * nodes
+bestEnd nodes = workBytes * nodes
 
 -- The list of n kinds that ends there.
 abbrev pub listAt : List ℕ → ℕ → ℕ → List ℕ

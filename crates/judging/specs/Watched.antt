@@ -45,7 +45,7 @@ givesWatched x Nothing = false
 unfoldable pub watchedFault : Head → Shape → Transition → Bool → ℕ
 watchedFault h kind x again = orElse (unless (not again) 2) (tableFault h kind x noRegisters)
 
--- The fault of kind k from a node, and where it leads: behind the step what is watched is given where it was before, or where the step gives it.
+-- The fault of kind k from a node, and where it leads: after the step what is watched is given where it was before, or where the step gives it.
 unfoldable pub nodeFault : Table → List ℕ → Watch → ℕ → ℕ → ℕ
 nodeFault table t watch node k =
     let x = transition table t (nodeState node) k in

@@ -5,10 +5,12 @@ mod lists;
 mod search;
 mod steps;
 
-use convention::Judging;
+use convention::JudgingAnswer;
 use convention::Reading;
 use convention::Reg;
+use convention::STATE_LIMIT;
 use convention::Table;
+use lists::WORK_BYTES;
 use steps::Watch;
 ghost use Rattle.convention.specs.Numbers.{stateLimit};
 ghost use Rattle.convention.specs.Judged.{Judges};
@@ -59,37 +61,37 @@ fn least_list(table: Table, t: &[u8], work: &mut [u8]) -> usize
 }
 
 // The verdict on a table that was read from t, with room for its list: the list is written only where it is faulty.
-fn judge_read(table: Table, t: &[u8], work: &mut [u8], out: &mut [u8]) -> Judging
+fn judge_read(table: Table, t: &[u8], work: &mut [u8], out: &mut [u8]) -> JudgingAnswer
     requires { ⌜ JudgeAsks table (now t) (now work) (now out) ⌝ }
     ensures { λ r. ⌜ Judges stateLimit (now (t .entry)) (now (out .entry)) r (now (out .exit)) ⌝ }
 {
     let n = least_list(table, t, work);
     if n == 0 {
-        return Judging::Clean;
+        return JudgingAnswer::Clean;
     }
     let nodes = 2 * table.states as usize;
-    let end = 8 * nodes;
+    let end = WORK_BYTES * nodes;
     let at = end - n;
     bytes::copy(&work[at..end], out);
     let fault = walking::list_fault(table, t, &out[..n]);
-    Judging::Fault(fault, n)
+    JudgingAnswer::Fault(fault, n)
 }
 
 // Judges a table: clean, or the first faulty list in the first bytes of `out`, shorter lists first and those of one length in
 // kind order, with its fault; or a refusal, which writes nothing.
-pub fn judge(t: &[u8], out: &mut [u8]) -> Judging
+pub fn judge(t: &[u8], out: &mut [u8]) -> JudgingAnswer
     ensures { λ r. ⌜ Judges stateLimit (now (t .entry)) (now (out .entry)) r (now (out .exit)) ⌝ }
 {
     let read = table::read_table(t);
     let reading = read.reading;
     match reading {
-        Reading::Refused(number) => Judging::Refused(number),
+        Reading::Refused(number) => JudgingAnswer::Refused(number),
         Reading::Read => {
             let table = read.table;
             if out.len() < 2 * table.states as usize {
-                return Judging::Refused(12);
+                return JudgingAnswer::Refused(12);
             }
-            let mut work = [0u8; 3200];
+            let mut work = [0u8; WORK_BYTES * 2 * STATE_LIMIT];
             judge_read(table, t, &mut work, out)
         }
     }

@@ -2,12 +2,18 @@
 ghost use mathlib.Core.Path.{_≡_};
 ghost use Rattle.judging.specs.Listed.{FoundAsks, FoundIs, ListsAsk, CompareIs, KeepAsks, kept, BetterIs};
 
+// How many bytes the working memory has for each node up to the end of the list found last, and in all: `foundBytes` and
+// `workBytes`.
+const FOUND_BYTES: usize = 7;
+
+pub(crate) const WORK_BYTES: usize = 8;
+
 // Writes the kinds that led to an entry, and then a kind, as the list found. Answers how many kinds it has.
 pub(crate) fn write_found(work: &mut [u8], nodes: usize, entry: usize, kind: u8) -> usize
     requires { ⌜ FoundAsks nodes (now work) entry ⌝ }
     ensures { λ n. ⌜ FoundIs nodes (now (work .entry)) entry kind n (now (work .exit)) ⌝ }
 {
-    let end = 7 * nodes;
+    let end = FOUND_BYTES * nodes;
     let last = end - 1;
     let at = exploring::write_path(work, nodes, entry, last);
     work[last] = kind;
@@ -22,7 +28,7 @@ fn is_before(work: &[u8], nodes: usize, found: usize, best: usize) -> bool
     if found != best {
         return found < best;
     }
-    let end = 7 * nodes;
+    let end = FOUND_BYTES * nodes;
     let mut at = end - found;
     while at < end {
         if work[at] != work[at + nodes] {
@@ -38,8 +44,8 @@ pub(crate) fn keep(work: &mut [u8], nodes: usize, found: usize)
     requires { ⌜ KeepAsks nodes (now work) found ⌝ }
     ensures { λ _. ⌜ now (work .exit) ≡ kept nodes (now (work .entry)) found ⌝ }
 {
-    let from = 7 * nodes - found;
-    let to = 8 * nodes - found;
+    let from = FOUND_BYTES * nodes - found;
+    let to = WORK_BYTES * nodes - found;
     let mut i = 0;
     while i < found {
         work[to + i] = work[from + i];

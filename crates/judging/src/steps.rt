@@ -6,7 +6,7 @@ use convention::Shape;
 use convention::Table;
 use convention::Transition;
 ghost use mathlib.Core.Path.{_≡_};
-ghost use Rattle.walking.specs.Asked.{FaultAsks};
+ghost use Rattle.walking.specs.TableSteps.{FaultAsks};
 ghost use Rattle.judging.specs.Watched.{nodeOf, givesWatched, watchedFault};
 ghost use Rattle.judging.specs.Searched.{WatchedStepAsks, WatchedStepIs};
 

@@ -6,8 +6,8 @@ use native.Mathlib.Decide.{decLt}
 use native.Mathlib.Omega.{arith}
 use borrow.Author.Tests.{lt-ltb, le-ltb}
 use Rattle.convention.specs.Program.{digit, digitsIn, decimal}
-use Rattle.line.specs.Appended.{Room, Appended}
-use Rattle.line.proofs.Appending.{room-first, room-behind, two}
+use Rattle.line.specs.Appended.{FieldRoom, Appended}
+use Rattle.line.proofs.Appending.{room-first, room-after, two}
 
 -- One turn: a number of one digit, and one of more.
 one-digit : (turns n : ℕ) → n < 10 → digitsIn turns n ≡ digit n ∷ []
@@ -41,21 +41,21 @@ decimal-more zero h = absurd (omega arith)
 decimal-more (suc n) h = rw (more-digits n (suc n) h, enough n (suc n / 10) (suc n / 10) (omega arith) (omega arith))
 
 -- Appending them: a number of one digit, and one of more.
-module _ (out : List ℕ) (at n : ℕ) (room : Room out at (decimal n)) where
+module _ (out : List ℕ) (at n : ℕ) (room : FieldRoom out at (decimal n)) where
   module _ (h : n < 10) where
-    pub one-room : Room out at (digit n ∷ [])
+    pub one-room : FieldRoom out at (digit n ∷ [])
     one-room = rw (decimal-one n h) at room
 
     pub one-done : (next : ℕ) (after : List ℕ) → Appended out at (digit n ∷ []) next after → Appended out at (decimal n) next after
     one-done next after done = rw (decimal-one n h) done
 
   module _ (h : 10 ≤ n) where
-    pub tenth-room : Room out at (decimal (n / 10))
+    pub tenth-room : FieldRoom out at (decimal (n / 10))
     tenth-room = room-first _ _ room (decimal-more n h)
 
     module _ (next : ℕ) (mid : List ℕ) (tenth : Appended out at (decimal (n / 10)) next mid) where
-      pub last-room : Room mid next (digit n ∷ [])
-      last-room = room-behind _ _ room (decimal-more n h) tenth
+      pub last-room : FieldRoom mid next (digit n ∷ [])
+      last-room = room-after _ _ room (decimal-more n h) tenth
 
       pub last-done : (end : ℕ) (after : List ℕ) → Appended mid next (digit n ∷ []) end after → Appended out at (decimal n) end after
       last-done end after last = two tenth last (decimal-more n h)

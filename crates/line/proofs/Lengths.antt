@@ -6,13 +6,13 @@ use native.Mathlib.Nat.{le-refl, pow-suc}
 use native.Mathlib.Decide.{decLt}
 use native.Mathlib.Omega.{arith}
 use lib.ListN.{length, length-append}
-use Rattle.convention.specs.declared.Building.the-variants.{Built}
-use Rattle.convention.specs.declared.Judging.{Judging}
-use Rattle.convention.specs.declared.Judging.the-variants.{Clean, Fault}
+use Rattle.convention.specs.declared.BuildingAnswer.the-variants.{Built}
+use Rattle.convention.specs.declared.JudgingAnswer.{JudgingAnswer}
+use Rattle.convention.specs.declared.JudgingAnswer.the-variants.{Clean, Fault}
 use Rattle.convention.specs.Numbers.{judgingSays}
 use Rattle.convention.specs.Lists.{KindsBelow}
 use Rattle.convention.specs.Program.{decimal, kindFields, verdictFields, refusedLine, line}
-use Rattle.line.specs.Appended.{Room}
+use Rattle.line.specs.Appended.{FieldRoom}
 use Rattle.line.specs.Lengths.{digits, lineMost}
 use Rattle.line.proofs.Digits.{decimal-one, decimal-more}
 
@@ -26,20 +26,20 @@ refused-long : (number : ℕ) → length (refusedLine number) ≡ 7 + (1 + lengt
 unfolding refusedLine
 refused-long number = simp length-append (omega arith)
 
-built-long : (n len m : ℕ) (verdict : Judging) (list : List ℕ)
+built-long : (n len m : ℕ) (verdict : JudgingAnswer) (list : List ℕ)
     → length (line (Built n len) m verdict list) ≡ length (decimal n) + (1 + length (decimal m)) + length (verdictFields verdict list) + 1
 unfolding line
 built-long n len m verdict list = simp length-append (omega arith)
 
 module _ (out : List ℕ) (at : ℕ) where
-  pub fault-fits : (fault n : ℕ) (list : List ℕ) → Room out at (verdictFields (Fault fault n) list)
+  pub fault-fits : (fault n : ℕ) (list : List ℕ) → FieldRoom out at (verdictFields (Fault fault n) list)
       → at + (6 + (1 + length (decimal fault)) + (1 + length (decimal n)) + length (kindFields list)) ≤ length out
   fault-fits fault n list room = rw (← fault-long fault n list) (room .fits)
 
-  pub refused-fits : (number : ℕ) → Room out at (refusedLine number) → at + (7 + (1 + length (decimal number)) + 1) ≤ length out
+  pub refused-fits : (number : ℕ) → FieldRoom out at (refusedLine number) → at + (7 + (1 + length (decimal number)) + 1) ≤ length out
   refused-fits number room = rw (← refused-long number) (room .fits)
 
-  pub built-fits : (n len m : ℕ) (verdict : Judging) (list : List ℕ) → Room out at (line (Built n len) m verdict list)
+  pub built-fits : (n len m : ℕ) (verdict : JudgingAnswer) (list : List ℕ) → FieldRoom out at (line (Built n len) m verdict list)
       → at + (length (decimal n) + (1 + length (decimal m)) + length (verdictFields verdict list) + 1) ≤ length out
   built-fits n len m verdict list room = rw (← built-long n len m verdict list) (room .fits)
 
@@ -86,15 +86,15 @@ kinds-long (k ∷ list) below = rw (length-append, kinds-long list (below .1), d
 pub refused-most : (d number : ℕ) → 0 < d → number < 10 ^ d → length (refusedLine number) ≤ 7 + (1 + d) + 1
 refused-most d number some h = omega (arith, refused-long number, digits-below d number some h)
 
-verdict-most : (most : ℕ) (verdict : Judging) (list : List ℕ) → judgingSays verdict .fault < 10 → judgingSays verdict .count ≤ most
+verdict-most : (most : ℕ) (verdict : JudgingAnswer) (list : List ℕ) → judgingSays verdict .fault < 10 → judgingSays verdict .count ≤ most
     → KindsBelow 10 list → length list ≤ most → length (verdictFields verdict list) ≤ 6 + 2 + (1 + digits most) + 2 * most
 unfolding verdictFields
 verdict-most most Clean list f c below few = omega arith
 verdict-most most (Fault fault n) list f c below few =
     omega (arith, fault-long fault n list, digits-below 1 fault (omega arith) f, digits-most most n c, kinds-long list below)
-verdict-most most (Judging.Refused number) list f c below few = omega arith
+verdict-most most (JudgingAnswer.Refused number) list f c below few = omega arith
 
-pub line-most : (limit most n len m : ℕ) (verdict : Judging) (list : List ℕ) → n ≤ limit → m < 10
+pub line-most : (limit most n len m : ℕ) (verdict : JudgingAnswer) (list : List ℕ) → n ≤ limit → m < 10
     → judgingSays verdict .fault < 10 → judgingSays verdict .count ≤ most → KindsBelow 10 list → length list ≤ most
     → length (line (Built n len) m verdict list) ≤ lineMost limit most
 line-most limit most n len m verdict list hn hm f c below few =

@@ -6,20 +6,20 @@ use lib.ListN.{length}
 use Rattle.convention.specs.declared.Reading.{Reading}
 use Rattle.convention.specs.declared.Sheet.{Sheet}
 use Rattle.convention.specs.declared.SheetAnswer.{SheetAnswer}
-use Rattle.convention.specs.declared.Placing.{Placing}
+use Rattle.convention.specs.declared.PlacingAnswer.{PlacingAnswer}
 use Rattle.convention.specs.Numbers.{argumentLimit}
 use Rattle.convention.specs.Sheets.{readSheet, sheetOf}
 use Rattle.convention.specs.Rules.{byRules, placeByRules, rulesMemory}
 use Rattle.convention.specs.Promised.{SheetRead}
 use Rattle.convention.proofs.Sheets.{sheet-read, sheet-right, sheet-is, sheet-refused, sheet-wrong}
-use Rattle.places.specs.Walks.{ListTested, PlacingIs}
-use Rattle.places.proofs.Calls.{read-answer, read-memory, unread-answer, unread-memory}
-use Rattle.placing.specs.Asked.{ListAsks, RoomAsks}
+use Rattle.stepping.specs.Walks.{ListTested, PlacingIs}
+use Rattle.stepping.proofs.Calls.{read-answer, read-memory, unread-answer, unread-memory}
+use Rattle.placing.specs.RulesSteps.{RulesListAsks, RoomAsks}
 
 -- A list that passed its tests can be walked, and its records written.
 module _ (sheet : Sheet) (ks out : List ℕ) (number at : ℕ) (read : SheetRead sheet)
     (tests : ListTested argumentLimit (sheet .head .kinds) ks (length out) number at) (z : number ≡ 0) where
-  pub list-asks : ListAsks sheet ks
+  pub list-asks : RulesListAsks sheet ks
   list-asks = record { read = read; listed = tests .listed z }
 
   pub room-asks : RoomAsks sheet ks out
@@ -31,7 +31,7 @@ module _ (s : List ℕ) (a : SheetAnswer) (ea : a ≡ readSheet s) where
     pub was-read : SheetRead (a .sheet)
     was-read = rw (sheet-is s a ea e) (sheet-read s (sheet-right s a ea e))
 
-    module _ (ks out : List ℕ) (r : Placing) (after : List ℕ)
+    module _ (ks out : List ℕ) (r : PlacingAnswer) (after : List ℕ)
         (is : PlacingIs argumentLimit (a .sheet .head .kinds) (byRules (a .sheet)) ks out r after) where
       is-by-bytes : PlacingIs argumentLimit (sheetOf s .head .kinds) (byRules (sheetOf s)) ks out r after
       is-by-bytes = rw (sheet-is s a ea e) at is
@@ -45,7 +45,7 @@ module _ (s : List ℕ) (a : SheetAnswer) (ea : a ≡ readSheet s) where
       placed-memory = read-memory argumentLimit _ _ _ ks out (sheet-right s a ea e) r after is-by-bytes
 
   module _ (n : ℕ) (e : a .reading ≡ Reading.Refused n) (ks out : List ℕ) where
-    pub refused-answer : Placing.Refused n ≡ placeByRules argumentLimit s ks (length out)
+    pub refused-answer : PlacingAnswer.Refused n ≡ placeByRules argumentLimit s ks (length out)
     unfolding placeByRules
     refused-answer = unread-answer argumentLimit _ _ _ ks out n (sheet-refused s a ea n e) (sheet-wrong s a ea n e)
 

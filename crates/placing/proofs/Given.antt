@@ -11,7 +11,7 @@ use Rattle.convention.specs.declared.Placement.{Placement}
 use Rattle.convention.specs.declared.Placement.the-variants.{Registers, Stack, Nowhere}
 use Rattle.convention.specs.declared.Sheet.{Sheet}
 use Rattle.convention.specs.declared.ByRules.{ByRules}
-use Rattle.convention.specs.declared.Placing.the-variants.{Placed}
+use Rattle.convention.specs.declared.PlacingAnswer.the-variants.{Placed}
 use Rattle.convention.specs.Numbers.{argumentLimit}
 use Rattle.convention.specs.Sheets.{isClosing, sheetNo, sheetOf, sheetKind}
 use Rattle.convention.specs.Lists.{faultFrom, stateFrom, placesFrom, KindsBelow}
@@ -22,13 +22,13 @@ use Rattle.convention.proofs.Bytes.{four-read}
 use Rattle.convention.proofs.Sheets.{sheet-read}
 use Rattle.convention.proofs.Offsets.{least-ge, least-is}
 use Rattle.convention.proofs.Rules.{place-cases}
-use Rattle.places.specs.Ends.{stackEnd}
-use Rattle.places.proofs.Runs.{length-mark}
-use Rattle.places.proofs.Accepted.{Accepted, accepted}
-use Rattle.places.proofs.Apart.{FreeIn, FromP, StepGives, mark-stays, place-length, apart}
-use Rattle.places.specs.Walks.{stepMost}
-use Rattle.placing.proofs.Search.{left-free}
-use Rattle.placing.proofs.Steps.{aligned, run-end, stack-end, p-grows}
+use Rattle.stepping.specs.Ends.{stackEnd}
+use Rattle.stepping.proofs.Runs.{length-mark}
+use Rattle.stepping.proofs.Accepted.{Accepted, accepted}
+use Rattle.stepping.proofs.Apart.{FreeIn, FromP, StepGives, mark-stays, place-length, apart}
+use Rattle.convention.specs.Shapes.{stepMost, pMost}
+use Rattle.placing.proofs.Search.{skipped-free}
+use Rattle.placing.proofs.Steps.{aligned, run-ends, stack-end, p-grows}
 
 -- The places of a list by the rules of a sheet.
 abbrev places : Sheet → List ℕ → List Placement
@@ -40,11 +40,11 @@ Aligned a (Registers first count) = Unit {0}
 Aligned a (Stack offset count) = offset .0 % a ≡ 0
 Aligned a Nowhere = Unit {0}
 
--- One place by the rules: its registers are free, its stack bytes begin at p or behind it, and at a multiple of the alignment.
+-- One place by the rules: its registers are free, its stack bytes begin at p or after it, and at a multiple of the alignment.
 module _ (w : ℕ) (k : SheetKind) (s : ByRules) where
   place-free : FreeIn (s .unavailable) (rulesPlace w k s)
   place-free =
-      place-cases w k (s .unavailable) (λ at. FreeIn (s .unavailable) (at (s .p .0))) (left-free (s .unavailable) (needed w k) (startsOf k)) (λ _. tt) (λ _. tt)
+      place-cases w k (s .unavailable) (λ at. FreeIn (s .unavailable) (at (s .p .0))) (skipped-free (s .unavailable) (needed w k) (startsOf k)) (λ _. tt) (λ _. tt)
 
   place-above : FromP (s .p) (rulesPlace w k s)
   place-above = place-cases w k (s .unavailable) (λ at. FromP (s .p) (at (s .p .0))) (λ l. tt) (λ _. least-ge (k .shape .alignment) 0 (s .p .0)) (λ _. tt)
@@ -83,7 +83,7 @@ module _ (sheet : Sheet) (read : SheetRead sheet) where
       let w = sheet .head .width in
       record {
         keeps = closed-length (isClosing kind) _ _ _ ∙ (place-length (rulesPlace w kind s) (s .unavailable) ∙ good);
-        within = rw good (run-end (sheet .head) kind (read .head) (read .kind k h) s (rulesPlace w kind s) refl);
+        within = rw good (run-ends (sheet .head) kind (read .head) (read .kind k h) s (rulesPlace w kind s) refl);
         free = place-free w kind s;
         marks = closed-stays (isClosing kind) _ _ _;
         above = place-above w kind s;
@@ -129,10 +129,10 @@ module _ (sheet : Sheet) (read : SheetRead sheet) where
 
     -- Of a list that a call places, the final p is at most 31,600, and so is where any stack bytes end.
     module _ (short : length ks ≤ argumentLimit) where
-      pub final-most : stateFrom (byRules sheet) (byRules sheet .begin) ks .p .0 ≤ 31600
+      pub final-most : stateFrom (byRules sheet) (byRules sheet .begin) ks .p .0 ≤ pMost argumentLimit
       final-most = omega (arith, p-low (byRules sheet .begin) ks below)
 
-      pub offset-most : (i : ℕ) (offset : Offset) (count : ℕ) → getD (places sheet ks) i Nowhere ≡ Stack offset count → offset .0 + count ≤ 31600
+      pub offset-most : (i : ℕ) (offset : Offset) (count : ℕ) → getD (places sheet ks) i Nowhere ≡ Stack offset count → offset .0 + count ≤ pMost argumentLimit
       offset-most i offset count e =
           let low : stackEnd (Stack offset count) ≤ 0 + stepMost * length ks = rw e at (places-low (byRules sheet .begin) ks below i) in
           omega arith
@@ -149,7 +149,7 @@ module _ (s ks : List ℕ) (room n : ℕ) (p : Offset) (placed : placeByRules ar
   means = accepted n p argumentLimit (sheetNo s) (sheetOf s .head .kinds) (byRules (sheetOf s)) ks room placed
 
   -- The p that is answered is at most 31,600.
-  pub answer-most : p .0 ≤ 31600
+  pub answer-most : p .0 ≤ pMost argumentLimit
   answer-most = rw (← means .final) (final-most (sheetOf s) (sheet-read s (means .read)) ks (means .below) (means .short))
 
   -- No two arguments share anything.

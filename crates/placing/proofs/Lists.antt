@@ -13,12 +13,13 @@ use Rattle.convention.specs.Sheets.{sheetKind}
 use Rattle.convention.specs.Lists.{recordOf}
 use Rattle.convention.specs.Rules.{placeFault, byRules}
 use Rattle.convention.proofs.Lists.{known}
-use Rattle.places.specs.Walks.{stepMost, WalkIs, recordsBefore}
-use Rattle.places.proofs.Walks.{walk-begin, walk-on, walk-hit, walk-end, write-begin, write-on, write-end}
-use Rattle.placing.specs.Asked.{StepAsks, StepIs, ListAsks, rulesBegin, Standing, Writing}
+use Rattle.stepping.specs.Walks.{WalkIs, recordsBefore}
+use Rattle.convention.specs.Shapes.{stepMost}
+use Rattle.stepping.proofs.Walks.{walk-begin, walk-on, walk-hit, walk-end, write-begin, write-on, write-end}
+use Rattle.placing.specs.RulesSteps.{RulesStepAsks, RulesStepIs, RulesListAsks, rulesBegin, RulesStanding, RulesWriting}
 use Rattle.placing.proofs.Steps.{p-grows}
 
-module _ (sheet : Sheet) (ks : List ℕ) (i : ℕ) (asks : ListAsks sheet ks) (h : i < length ks) where
+module _ (sheet : Sheet) (ks : List ℕ) (i : ℕ) (asks : RulesListAsks sheet ks) (h : i < length ks) where
   -- The next argument's kind is one of the sheet's, and so of the eight.
   kind-known : getD ks i 0 < sheet .head .kinds
   kind-known = known (sheet .head .kinds) ks (asks .listed .known) i h
@@ -28,48 +29,48 @@ module _ (sheet : Sheet) (ks : List ℕ) (i : ℕ) (asks : ListAsks sheet ks) (h
 
   module _ (s : ByRules) where
     -- Its step can be taken.
-    pub next-asks : s .p .0 ≤ stepMost * i → StepAsks (sheet .head) (sheetKind sheet (getD ks i 0)) s
+    pub next-asks : s .p .0 ≤ stepMost * i → RulesStepAsks (sheet .head) (sheetKind sheet (getD ks i 0)) s
     next-asks reach = record {
       head = asks .read .head;
       kind = asks .read .kind _ kind-known;
       room = omega (arith, reach, asks .listed .short);
     }
 
-    module _ (place : Placement) (next : ByRules) (step : StepIs (sheet .head) (sheetKind sheet (getD ks i 0)) s place next) where
+    module _ (place : Placement) (next : ByRules) (step : RulesStepIs (sheet .head) (sheetKind sheet (getD ks i 0)) s place next) where
       next-reach : s .p .0 ≤ stepMost * i → next .p .0 ≤ stepMost * (i + 1)
       next-reach reach =
           rw (step .reached) (omega (arith, reach, p-grows (sheet .head) _ s (asks .read .head) (asks .read .kind _ kind-known)))
 
-      -- Behind an argument that has a place, and at one that has none.
-      pub standing-on : (fault : ℕ) → Standing sheet ks s i → fault ≡ placeFault place → fault ≡ 0 → Standing sheet ks next (i + 1)
+      -- After an argument that has a place, and at one that has none.
+      pub standing-on : (fault : ℕ) → RulesStanding sheet ks s i → fault ≡ placeFault place → fault ≡ 0 → RulesStanding sheet ks next (i + 1)
       standing-on fault standing e z = record {
         walk = walk-on (byRules sheet) ks s next i fault (standing .walk) h (e ∙ ap placeFault (step .placed)) z (step .reached);
         reach = next-reach (standing .reach);
       }
 
-      pub standing-hit : (fault : ℕ) (p : Offset) → Standing sheet ks s i → fault ≡ placeFault place → (fault ≡ 0 → ⊥)
+      pub standing-hit : (fault : ℕ) (p : Offset) → RulesStanding sheet ks s i → fault ≡ placeFault place → (fault ≡ 0 → ⊥)
           → WalkIs (byRules sheet) ks fault i p
       standing-hit fault p standing e nz = walk-hit (byRules sheet) ks s i fault p (standing .walk) h (e ∙ ap placeFault (step .placed)) nz
 
-      -- Behind an argument whose record was written.
-      pub writing-on : (before out after : List ℕ) → 6 * length ks ≤ length before → Writing sheet ks before s i out
-          → after ≡ written out (6 * i) (recordOf place) → Writing sheet ks before next (i + 1) after
+      -- After an argument whose record was written.
+      pub writing-on : (before out after : List ℕ) → 6 * length ks ≤ length before → RulesWriting sheet ks before s i out
+          → after ≡ written out (6 * i) (recordOf place) → RulesWriting sheet ks before next (i + 1) after
       writing-on before out after room writing e = record {
         writes = write-on (byRules sheet) ks before out s i (writing .writes) h room after next place (step .placed) e (step .reached);
         reach = next-reach (writing .reach);
       }
 
--- Before the first argument, and behind the last.
+-- Before the first argument, and after the last.
 module _ (sheet : Sheet) (ks : List ℕ) where
-  pub standing-begin : (s : ByRules) → s ≡ rulesBegin → Standing sheet ks s 0
+  pub standing-begin : (s : ByRules) → s ≡ rulesBegin → RulesStanding sheet ks s 0
   standing-begin s e = rw e (record { walk = walk-begin (byRules sheet) ks; reach = omega arith })
 
-  pub standing-end : (s : ByRules) (i : ℕ) → Standing sheet ks s i → length ks ≤ i → WalkIs (byRules sheet) ks 0 i (s .p)
+  pub standing-end : (s : ByRules) (i : ℕ) → RulesStanding sheet ks s i → length ks ≤ i → WalkIs (byRules sheet) ks 0 i (s .p)
   standing-end s i standing h = walk-end (byRules sheet) ks s i (s .p) (standing .walk) h refl
 
-  pub writing-begin : (before : List ℕ) (s : ByRules) → s ≡ rulesBegin → Writing sheet ks before s 0 before
+  pub writing-begin : (before : List ℕ) (s : ByRules) → s ≡ rulesBegin → RulesWriting sheet ks before s 0 before
   writing-begin before s e = rw e (record { writes = write-begin (byRules sheet) ks before; reach = omega arith })
 
-  pub writing-end : (before out : List ℕ) (s : ByRules) (i : ℕ) → Writing sheet ks before s i out → length ks ≤ i
+  pub writing-end : (before out : List ℕ) (s : ByRules) (i : ℕ) → RulesWriting sheet ks before s i out → length ks ≤ i
       → out ≡ recordsBefore (byRules sheet) ks before
   writing-end before out s i writing h = write-end (byRules sheet) ks before out s i (writing .writes) h

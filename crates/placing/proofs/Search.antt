@@ -8,10 +8,10 @@ use native.Mathlib.Omega.{arith}
 use lib.ListN.{length, getD, take, drop, drop-of-length-le}
 use lib.Seq.{length-take-le, take-take, drop-cons, getD-take}
 use Rattle.convention.specs.declared.SheetKind.{SheetKind}
-use Rattle.convention.specs.Rules.{freeRun, markRun, markRuns, leftBefore, startsOf}
-use Rattle.placing.specs.Asked.{RunsWithin, RunsTried}
+use Rattle.convention.specs.Rules.{freeRun, markRun, markRuns, skippedBefore, startsOf}
+use Rattle.placing.specs.RulesSteps.{RunsWithin, RunsTried}
 
--- What is left of the first n of a list at a position of them, and behind them.
+-- What is left of the first n of a list at a position of them, and after them.
 rest-of : (l : List ℕ) (n i : ℕ) → n ≤ length l → i < n → drop i (take n l) ≡ getD l i 0 ∷ drop (i + 1) (take n l)
 rest-of l n i h k = rw (add-one, drop-cons (take n l) i 0 (rw (length-take-le n l h) k), getD-take n l i 0 k)
 
@@ -22,68 +22,68 @@ rest-end l n i h k = drop-of-length-le (take n l) {i = i} (rw (length-take-le n 
 pub start-within : (kind : SheetKind) (count i : ℕ) → RunsWithin kind count → i < kind .tries → getD (kind .starts) i 0 + count ≤ 16
 start-within kind count i runs h = runs .starts i h
 
-pub tried-within : (kind : SheetKind) (count left i : ℕ) → RunsTried kind count left → i < left → getD (kind .starts) i 0 + count ≤ 16
-tried-within kind count left i tried h = tried .runs .starts i (omega (arith, tried .tried))
+pub tried-within : (kind : SheetKind) (count skipped i : ℕ) → RunsTried kind count skipped → i < skipped → getD (kind .starts) i 0 + count ≤ 16
+tried-within kind count skipped i tried h = tried .runs .starts i (omega (arith, tried .tried))
 
--- How many starts are left: all were tried; the run of the start there is free; it is not, and the answer is that from the next start on.
+-- How many starts are skipped: all were tried; the run of the start there is free; it is not, and the answer is that from the next start on.
 module _ (kind : SheetKind) (taken : List Bool) (count i w : ℕ) (runs : RunsWithin kind count)
-    (inv : i + leftBefore taken count (drop i (startsOf kind)) ≡ w) where
+    (inv : i + skippedBefore taken count (drop i (startsOf kind)) ≡ w) where
   there : kind .tries ≤ length (kind .starts)
   there = omega (arith, runs .tries, runs .sixteen)
 
-  pub left-end : kind .tries ≤ i → i ≡ w
-  unfolding leftBefore
-  left-end h = omega (arith, rw (rest-end (kind .starts) (kind .tries) i there h) at inv)
+  pub skipped-end : kind .tries ≤ i → i ≡ w
+  unfolding skippedBefore
+  skipped-end h = omega (arith, rw (rest-end (kind .starts) (kind .tries) i there h) at inv)
 
-  pub left-hit : (free : Bool) → i < kind .tries → free ≡ freeRun taken (getD (kind .starts) i 0) count → free ≡ true → i ≡ w
-  unfolding leftBefore
-  left-hit free h e t = omega (arith, rw (rest-of (kind .starts) (kind .tries) i there h, leftBefore, sym e ∙ t) at inv)
+  pub skipped-hit : (free : Bool) → i < kind .tries → free ≡ freeRun taken (getD (kind .starts) i 0) count → free ≡ true → i ≡ w
+  unfolding skippedBefore
+  skipped-hit free h e t = omega (arith, rw (rest-of (kind .starts) (kind .tries) i there h, skippedBefore, sym e ∙ t) at inv)
 
-  pub left-on : (free : Bool) → i < kind .tries → free ≡ freeRun taken (getD (kind .starts) i 0) count → free ≡ false
-      → i + 1 + leftBefore taken count (drop (i + 1) (startsOf kind)) ≡ w
-  unfolding leftBefore
-  left-on free h e f = omega (arith, rw (rest-of (kind .starts) (kind .tries) i there h, leftBefore, sym e ∙ f) at inv)
+  pub skipped-on : (free : Bool) → i < kind .tries → free ≡ freeRun taken (getD (kind .starts) i 0) count → free ≡ false
+      → i + 1 + skippedBefore taken count (drop (i + 1) (startsOf kind)) ≡ w
+  unfolding skippedBefore
+  skipped-on free h e f = omega (arith, rw (rest-of (kind .starts) (kind .tries) i there h, skippedBefore, sym e ∙ f) at inv)
 
--- Marking the runs of those that are left: all are marked; the run of the start there is marked, and the others are left.
-module _ (kind : SheetKind) (marked : List Bool) (count left i : ℕ) (w : List Bool) (tried : RunsTried kind count left)
-    (inv : markRuns marked count (drop i (take left (startsOf kind))) ≡ w) where
-  enough : left ≤ length (kind .starts)
+-- Marking the runs of those that are skipped: all are marked; the run of the start there is marked, and the others are left.
+module _ (kind : SheetKind) (marked : List Bool) (count skipped i : ℕ) (w : List Bool) (tried : RunsTried kind count skipped)
+    (inv : markRuns marked count (drop i (take skipped (startsOf kind))) ≡ w) where
+  enough : skipped ≤ length (kind .starts)
   enough = omega (arith, tried .tried, tried .runs .tries, tried .runs .sixteen)
 
-  first : take left (startsOf kind) ≡ take left (kind .starts)
-  first = take-take left (kind .tries) (kind .starts) (tried .tried)
+  first : take skipped (startsOf kind) ≡ take skipped (kind .starts)
+  first = take-take skipped (kind .tries) (kind .starts) (tried .tried)
 
-  pub marks-end : left ≤ i → marked ≡ w
+  pub marks-end : skipped ≤ i → marked ≡ w
   unfolding markRuns
-  marks-end h = rw (first, rest-end (kind .starts) left i enough h) at inv
+  marks-end h = rw (first, rest-end (kind .starts) skipped i enough h) at inv
 
-  pub marks-on : (more : List Bool) → i < left → more ≡ markRun marked (getD (kind .starts) i 0) count
-      → markRuns more count (drop (i + 1) (take left (startsOf kind))) ≡ w
+  pub marks-on : (more : List Bool) → i < skipped → more ≡ markRun marked (getD (kind .starts) i 0) count
+      → markRuns more count (drop (i + 1) (take skipped (startsOf kind))) ≡ w
   unfolding markRuns
-  marks-on more h e = rw (first, e) (rw (first, rest-of (kind .starts) left i enough h) at inv)
+  marks-on more h e = rw (first, e) (rw (first, rest-of (kind .starts) skipped i enough h) at inv)
 
--- No more are left than were tried, and the one behind them is free.
-pub left-le : (taken : List Bool) (count : ℕ) (starts : List ℕ) → leftBefore taken count starts ≤ length starts
-unfolding leftBefore
-left-le taken count [] = omega arith
-left-le taken count (s ∷ starts) = go (freeRun taken s count) (left-le taken count starts)
+-- No more are skipped than were tried, and the one after them is free.
+pub skipped-le : (taken : List Bool) (count : ℕ) (starts : List ℕ) → skippedBefore taken count starts ≤ length starts
+unfolding skippedBefore
+skipped-le taken count [] = omega arith
+skipped-le taken count (s ∷ starts) = go (freeRun taken s count) (skipped-le taken count starts)
   where
-    go : (free : Bool) → leftBefore taken count starts ≤ length starts
-        → elim free [ true ↦ 0 | false ↦ suc (leftBefore taken count starts) ] ≤ suc (length starts)
+    go : (free : Bool) → skippedBefore taken count starts ≤ length starts
+        → elim free [ true ↦ 0 | false ↦ suc (skippedBefore taken count starts) ] ≤ suc (length starts)
     go true later = omega arith
     go false later = omega arith
 
-pub left-free : (taken : List Bool) (count : ℕ) (starts : List ℕ) → leftBefore taken count starts < length starts
-    → freeRun taken (getD starts (leftBefore taken count starts) 0) count ≡ true
-unfolding leftBefore
-left-free taken count [] h = absurd (omega arith)
-left-free taken count (s ∷ starts) h = go (freeRun taken s count) refl h (left-free taken count starts)
+pub skipped-free : (taken : List Bool) (count : ℕ) (starts : List ℕ) → skippedBefore taken count starts < length starts
+    → freeRun taken (getD starts (skippedBefore taken count starts) 0) count ≡ true
+unfolding skippedBefore
+skipped-free taken count [] h = absurd (omega arith)
+skipped-free taken count (s ∷ starts) h = go (freeRun taken s count) refl h (skipped-free taken count starts)
   where
     at : Bool → ℕ
-    at free = elim free [ true ↦ 0 | false ↦ suc (leftBefore taken count starts) ]
+    at free = elim free [ true ↦ 0 | false ↦ suc (skippedBefore taken count starts) ]
 
     go : (free : Bool) → freeRun taken s count ≡ free → at free < suc (length starts)
-        → (leftBefore taken count starts < length starts → freeRun taken (getD starts (leftBefore taken count starts) 0) count ≡ true)
+        → (skippedBefore taken count starts < length starts → freeRun taken (getD starts (skippedBefore taken count starts) 0) count ≡ true)
         → freeRun taken (getD (s ∷ starts) (at free) 0) count ≡ true
     go true e l later = e
     go false e l later = later (omega arith)

@@ -1,4 +1,4 @@
--- Laws of one step, on plain values: what its parts ask, and how the place and what comes behind it are put together from what each part answers.
+-- Laws of one step, on plain values: what its parts ask, and how the place and what comes after it are put together from what each part answers.
 use Prim.Native.Nat.{ℕ, _+_, _%_, _≤_, _<_}
 use mathlib.Core.Path.{_≡_, refl}
 use mathlib.Core.Bool.{Bool}
@@ -16,15 +16,15 @@ use Rattle.convention.specs.declared.ByRules.{ByRules}
 use Rattle.convention.specs.Offsets.{leastOffset}
 use Rattle.convention.specs.Shapes.{stackBytes}
 use Rattle.convention.specs.Promised.{HeadRead, SheetKindRead}
-use Rattle.convention.specs.Rules.{markRuns, leftBefore, leftOf, startsOf, needed, startTaken, stackOffset}
+use Rattle.convention.specs.Rules.{markRuns, skippedBefore, skippedOf, startsOf, needed, startTaken, stackOffset}
 use Rattle.convention.specs.Rules.{rulesPlace, placeTaken, placeP, rulesAfter}
-use Rattle.places.specs.Ends.{runEnd, stackEnd}
-use Rattle.places.specs.Walks.{stepMost}
+use Rattle.stepping.specs.Ends.{runEnd, stackEnd}
+use Rattle.convention.specs.Shapes.{stepMost}
 use Rattle.convention.proofs.Rules.{place-cases}
 use Rattle.convention.proofs.Shapes.{stack-most}
 use Rattle.convention.proofs.Offsets.{least-lt, width-pos, modulus-pos, modulus-most}
-use Rattle.placing.specs.Asked.{RunsWithin, RunsTried, StepAsks, Searched, Found}
-use Rattle.placing.proofs.Search.{left-le}
+use Rattle.placing.specs.RulesSteps.{RunsWithin, RunsTried, RulesStepAsks, Searched, PlaceFound}
+use Rattle.placing.proofs.Search.{skipped-le}
 
 module _ (h : Head) (k : SheetKind) (head : HeadRead h) (kind : SheetKindRead h k) where
   -- A register has a width.
@@ -34,7 +34,7 @@ module _ (h : Head) (k : SheetKind) (head : HeadRead h) (kind : SheetKindRead h 
   starts-count : length (startsOf k) ≡ k .tries
   starts-count = length-take-le (k .tries) (k .starts) (omega (arith, kind .tries, kind .sixteen))
 
-  -- The runs of the starts lie within the sixteen, and so do those of the starts that were left.
+  -- The runs of the starts lie within the sixteen, and so do those of the starts that were skipped.
   pub runs-within : (count : ℕ) → count ≡ needed (h .width) k → RunsWithin k count
   runs-within count e = record {
     tries = kind .tries;
@@ -42,10 +42,10 @@ module _ (h : Head) (k : SheetKind) (head : HeadRead h) (kind : SheetKindRead h 
     starts = λ i l. rw e (omega (arith, kind .starts i l, head .registers));
   }
 
-  pub runs-tried : (taken : List Bool) (count left : ℕ) → count ≡ needed (h .width) k → left ≡ leftOf (h .width) k taken → RunsTried k count left
-  runs-tried taken count left e f = record {
+  pub runs-tried : (taken : List Bool) (count skipped : ℕ) → count ≡ needed (h .width) k → skipped ≡ skippedOf (h .width) k taken → RunsTried k count skipped
+  runs-tried taken count skipped e f = record {
     runs = runs-within count e;
-    tried = rw f (omega (arith, starts-count, left-le taken (needed (h .width) k) (startsOf k)));
+    tried = rw f (omega (arith, starts-count, skipped-le taken (needed (h .width) k) (startsOf k)));
   }
 
   -- An alignment is not 0, and there is room for an aligned offset.
@@ -55,13 +55,13 @@ module _ (h : Head) (k : SheetKind) (head : HeadRead h) (kind : SheetKindRead h 
   pub offset-room : (p room : ℕ) → p + stepMost < room → p + k .shape .alignment < room
   offset-room p room l = omega (arith, modulus-most (k .shape .alignment) (kind .shape .alignment))
 
-  -- The place's run lies within the sixteen, and its stack bytes end at most `stepMost` behind p.
-  pub run-end : (s : ByRules) (place : Placement) → place ≡ rulesPlace (h .width) k s → runEnd place ≤ 16
-  run-end s place e = rw e (place-cases (h .width) k (s .unavailable) (λ at. runEnd (at (s .p .0)) ≤ 16) registers (λ _. omega arith) (λ _. omega arith))
+  -- The place's run lies within the sixteen, and its stack bytes end at most `stepMost` after p.
+  pub run-ends : (s : ByRules) (place : Placement) → place ≡ rulesPlace (h .width) k s → runEnd place ≤ 16
+  run-ends s place e = rw e (place-cases (h .width) k (s .unavailable) (λ at. runEnd (at (s .p .0)) ≤ 16) registers (λ _. omega arith) (λ _. omega arith))
     where
-      registers : leftOf (h .width) k (s .unavailable) < length (startsOf k) → startTaken (h .width) k (s .unavailable) + needed (h .width) k ≤ 16
+      registers : skippedOf (h .width) k (s .unavailable) < length (startsOf k) → startTaken (h .width) k (s .unavailable) + needed (h .width) k ≤ 16
       registers l =
-          let tried : leftOf (h .width) k (s .unavailable) < k .tries = omega (arith, starts-count) in
+          let tried : skippedOf (h .width) k (s .unavailable) < k .tries = omega (arith, starts-count) in
           rw (getD-take (k .tries) (k .starts) _ 0 tried) (runs-within _ refl .starts _ tried)
 
   pub stack-end : (s : ByRules) → stackEnd (rulesPlace (h .width) k s) ≤ s .p .0 + stepMost
@@ -73,39 +73,39 @@ module _ (h : Head) (k : SheetKind) (head : HeadRead h) (kind : SheetKindRead h 
   pub stack-room : (s : ByRules) (place : Placement) (room : ℕ) → place ≡ rulesPlace (h .width) k s → s .p .0 + stepMost < room → stackEnd place < room
   stack-room s place room e l = rw e (omega (arith, stack-end s))
 
--- What the search answers is how many starts were left.
-pub searched : (h : Head) (k : SheetKind) (s : ByRules) (count left : ℕ) → StepAsks h k s → count ≡ needed (h .width) k
-    → left ≡ leftBefore (s .unavailable) count (startsOf k) → Searched h k s left
-searched h k s count left asks e f = record { asked = asks; tried = rw (← e) f }
+-- What the search answers is how many starts were skipped.
+pub searched : (h : Head) (k : SheetKind) (s : ByRules) (count skipped : ℕ) → RulesStepAsks h k s → count ≡ needed (h .width) k
+    → skipped ≡ skippedBefore (s .unavailable) count (startsOf k) → Searched h k s skipped
+searched h k s count skipped asks e f = record { asked = asks; tried = rw (← e) f }
 
--- The place: registers, stack or nowhere, by how many starts were left and whether the stack is allowed.
-module _ (h : Head) (k : SheetKind) (s : ByRules) (left : ℕ) (found : Searched h k s left) where
+-- The place: registers, stack or nowhere, by how many starts were skipped and whether the stack is allowed.
+module _ (h : Head) (k : SheetKind) (s : ByRules) (skipped : ℕ) (found : Searched h k s skipped) where
   count-starts : length (startsOf k) ≡ k .tries
   count-starts = starts-count h k (found .asked .head) (found .asked .kind)
 
-  pub place-registers : (count : ℕ) → left < k .tries → count ≡ needed (h .width) k
-      → Registers (record { 0 = getD (k .starts) left 0 }) count ≡ rulesPlace (h .width) k s
+  pub place-registers : (count : ℕ) → skipped < k .tries → count ≡ needed (h .width) k
+      → Registers (record { 0 = getD (k .starts) skipped 0 }) count ≡ rulesPlace (h .width) k s
   unfolding rulesPlace
-  place-registers count l e = rw (← found .tried, count-starts, lt-ltb left (k .tries) l, getD-take (k .tries) (k .starts) left 0 l, e)
+  place-registers count l e = rw (← found .tried, count-starts, lt-ltb skipped (k .tries) l, getD-take (k .tries) (k .starts) skipped 0 l, e)
 
-  pub place-stack : (offset : Offset) (bytes : ℕ) → k .tries ≤ left → k .flags % 2 ≡ 1 → offset .0 ≡ leastOffset (k .shape .alignment) 0 (s .p .0)
+  pub place-stack : (offset : Offset) (bytes : ℕ) → k .tries ≤ skipped → k .flags % 2 ≡ 1 → offset .0 ≡ leastOffset (k .shape .alignment) 0 (s .p .0)
       → bytes ≡ stackBytes (k .shape) → Stack offset bytes ≡ rulesPlace (h .width) k s
   unfolding rulesPlace
-  place-stack offset bytes l f e eb = rw (← found .tried, count-starts, le-ltb left (k .tries) l, eq-eqb _ _ f, ← e, eb)
+  place-stack offset bytes l f e eb = rw (← found .tried, count-starts, le-ltb skipped (k .tries) l, eq-eqb _ _ f, ← e, eb)
 
-  pub place-nowhere : k .tries ≤ left → (k .flags % 2 ≡ 1 → ⊥) → Nowhere ≡ rulesPlace (h .width) k s
+  pub place-nowhere : k .tries ≤ skipped → (k .flags % 2 ≡ 1 → ⊥) → Nowhere ≡ rulesPlace (h .width) k s
   unfolding rulesPlace
-  place-nowhere l f = rw (← found .tried, count-starts, le-ltb left (k .tries) l, ne-eqb _ _ f)
+  place-nowhere l f = rw (← found .tried, count-starts, le-ltb skipped (k .tries) l, ne-eqb _ _ f)
 
--- What comes behind the place: what it takes, and the runs of the starts that were left too where the kind closes.
-module _ (h : Head) (k : SheetKind) (s : ByRules) (left : ℕ) (place : Placement) (found : Found h k s left place) (taken : List Bool) (p : Offset)
+-- What comes after the place: what it takes, and the runs of the starts that were skipped too where the kind closes.
+module _ (h : Head) (k : SheetKind) (s : ByRules) (skipped : ℕ) (place : Placement) (found : PlaceFound h k s skipped place) (taken : List Bool) (p : Offset)
     (et : taken ≡ placeTaken place (s .unavailable)) (ep : p ≡ placeP place (s .p)) where
   pub after-open : k .flags < 2 → record { unavailable = taken; p = p } ≡ rulesAfter (h .width) k s
   unfolding rulesAfter
   after-open l = rw (lt-leb 2 (k .flags) l, ← found .placed, et, ep)
 
   pub after-closed : (count : ℕ) (closed : List Bool) → 2 ≤ k .flags → count ≡ needed (h .width) k
-      → closed ≡ markRuns taken count (take left (startsOf k)) → record { unavailable = closed; p = p } ≡ rulesAfter (h .width) k s
+      → closed ≡ markRuns taken count (take skipped (startsOf k)) → record { unavailable = closed; p = p } ≡ rulesAfter (h .width) k s
   unfolding rulesAfter
   after-closed count closed l e ec = rw (le-leb 2 (k .flags) l, ← found .placed, ← found .searched .tried, ← e, ec, et, ep)
 
@@ -113,9 +113,9 @@ module _ (h : Head) (k : SheetKind) (s : ByRules) (left : ℕ) (place : Placemen
 pub p-grows : (h : Head) (k : SheetKind) (s : ByRules) → HeadRead h → SheetKindRead h k
     → rulesAfter (h .width) k s .p .0 ≤ s .p .0 + stepMost
 unfolding rulesAfter
-p-grows h k s head kind = behind (rulesPlace (h .width) k s) (stack-end h k head kind s)
+p-grows h k s head kind = grows (rulesPlace (h .width) k s) (stack-end h k head kind s)
   where
-    behind : (place : Placement) → stackEnd place ≤ s .p .0 + stepMost → placeP place (s .p) .0 ≤ s .p .0 + stepMost
-    behind (Registers first count) l = omega arith
-    behind (Stack offset count) l = l
-    behind Nowhere l = omega arith
+    grows : (place : Placement) → stackEnd place ≤ s .p .0 + stepMost → placeP place (s .p) .0 ≤ s .p .0 + stepMost
+    grows (Registers first count) l = omega arith
+    grows (Stack offset count) l = l
+    grows Nowhere l = omega arith

@@ -16,7 +16,7 @@ use Rattle.convention.specs.Sheets.{startsNo, sheetKindLength, sheetKindNo, she
 use Rattle.convention.proofs.Parts.{rest-of}
 use Rattle.convention.proofs.Filled.{filled, fill-turn, fill-done}
 use Rattle.convention.proofs.Sheets.{kind-tries, kind-length, kinds-count, kind-next, kind-within}
-use Rattle.sheet.specs.Kinds.{KindsAre, KindsLeft, KindWhole, KindsRight, KindsStored, KindThere}
+use Rattle.sheet.specs.Kinds.{KindsAre, KindsRest, KindWhole, KindsRight, KindsStored, KindThere}
 use Rattle.convention.proofs.Numbers.{or-zero}
 use Rattle.convention.proofs.InTurn.{Things, InTurn, turn-right, turn-wrong, turn-end}
 
@@ -54,7 +54,7 @@ kinds-turns : (v : ℕ) (h : Head) (s : List ℕ) → InTurn (kindsInTurn v h s)
 unfolding sheetKindsNo
 kinds-turns v h s = record { none = λ at. refl; more = λ at left. rw (← drop-drop (sheetKindLength v (drop at s)) at s) }
 
--- Where the last one ends: behind one more, and where none is left.
+-- Where the last one ends: after one more, and where none is left.
 lengths-on : (v : ℕ) (s : List ℕ) (at left : ℕ) → 0 < left
     → at + sheetKindLength v (drop at s) + sheetKindsLength v (drop (at + sheetKindLength v (drop at s)) s) (left - 1) ≡ at + sheetKindsLength v (drop at s) left
 unfolding sheetKindsLength
@@ -68,12 +68,12 @@ unfolding sheetKindsLength
 lengths-end v s at zero t = add-zero at
 lengths-end v s at (suc left) t = absurd (omega arith)
 
-module _ (v : ℕ) (h : Head) (s : List ℕ) (at left : ℕ) (inv : KindsLeft v h s at left) where
+module _ (v : ℕ) (h : Head) (s : List ℕ) (at left : ℕ) (inv : KindsRest v h s at left) where
   module _ (number : ℕ) (t : 0 < left) (en : number ≡ sheetKindNo v h (take (length s - at) (drop at s))) where
     this : number ≡ sheetKindNo v h (drop at s)
     this = rw (← rest-of s at) en
 
-    pub kinds-turn : (len : ℕ) → number ≡ 0 → len ≡ sheetKindLength v (take (length s - at) (drop at s)) → KindsLeft v h s (at + len) (left - 1)
+    pub kinds-turn : (len : ℕ) → number ≡ 0 → len ≡ sheetKindLength v (take (length s - at) (drop at s)) → KindsRest v h s (at + len) (left - 1)
     kinds-turn len z el =
         let long : len ≡ sheetKindLength v (drop at s) = rw (← rest-of s at) el in
         record {

@@ -15,7 +15,7 @@ pub record KindsAre (v : ℕ) (h : Head) (s : List ℕ) (number end : ℕ) : Typ
   pub ends : number ≡ 0 → end ≡ sheetKindAt v s (h .kinds)
 
 -- Half way through: `left` kinds are left, the next one at byte `at`, and those that are left give the number and the end of all.
-pub record KindsLeft (v : ℕ) (h : Head) (s : List ℕ) (at left : ℕ) : Type 0 where
+pub record KindsRest (v : ℕ) (h : Head) (s : List ℕ) (at left : ℕ) : Type 0 where
   pub within : at ≤ length s
   pub numbers : sheetKindsNo v h (drop at s) left ≡ sheetKindsNo v h (drop kindsAt s) (h .kinds)
   pub lengths : at + sheetKindsLength v (drop at s) left ≡ sheetKindAt v s (h .kinds)

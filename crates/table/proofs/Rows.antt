@@ -1,12 +1,12 @@
 -- Transitions and rows: their numbers, and that what is asked for lies within the table's bytes.
-use Prim.Native.Nat.{ℕ, _+_, _-_, _*_, _^_, _≤_, _<_}
+use Prim.Native.Nat.{ℕ, _+_, _-_, _*_, _≤_, _<_}
 use mathlib.Core.Path.{_≡_, sym, _∙_}
 use mathlib.Core.Bool.{Bool}
 use mathlib.Core.List.{List, []}
-use native.Mathlib.Nat.{zero-add, mul-le-mul, mul-le-mul-left}
+use native.Mathlib.Nat.{zero-add, mul-le-mul}
 use native.Mathlib.Omega.{arith}
 use lib.Dec.{ltb}
-use lib.ListN.{length, getD, take, drop}
+use lib.ListN.{length, take, drop}
 use mir.Syntax.{w8, w16, w64}
 use mir.Val.{Fits}
 use borrow.Author.Tests.{le-leb, lt-leb, lt-ltb, le-ltb}
@@ -23,7 +23,7 @@ use Rattle.convention.specs.Promised.{TableRead}
 use Rattle.convention.proofs.Numbers.{or-first, or-later}
 use Rattle.convention.proofs.Positions.{transition-inside}
 use Rattle.convention.proofs.Tables.{row-refused, row-tests, row-part, row-is, row-start, table-read}
-use Rattle.table.specs.Asked.{InTable}
+use Rattle.table.specs.Within.{InTable}
 use Rattle.table.specs.Rows.{after, RowPart}
 
 -- The number of a transition: its bytes are there, or they are not.

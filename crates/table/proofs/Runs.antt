@@ -21,25 +21,25 @@ pub record RunOf (t : List ℕ) (X : Things) : Type 0 where
   pub there : (at : ℕ) → at ≤ length t → X .one at ≡ 0 → at + X .long at ≤ length t
 
 -- Half way through: the next one is at byte `at`, and those that are left give the number of all.
-pub record Left (t : List ℕ) (X : Things) (number at left : ℕ) : Type 0 where
+pub record RunRest (t : List ℕ) (X : Things) (number at left : ℕ) : Type 0 where
   pub within : at ≤ length t
   pub numbers : X .all at left ≡ number
 
 -- One that is right leaves the number of the others; one that is not gives its own; and nothing is wrong where none is left.
 module _ (t : List ℕ) (X : Things) (whole at : ℕ) (run : RunOf t X) where
-  pub run-turn : (left number long : ℕ) → Left t X whole at left → 0 < left → number ≡ X .one at → number ≡ 0 → long ≡ X .long at
-      → Left t X whole (at + long) (left - 1)
+  pub run-turn : (left number long : ℕ) → RunRest t X whole at left → 0 < left → number ≡ X .one at → number ≡ 0 → long ≡ X .long at
+      → RunRest t X whole (at + long) (left - 1)
   run-turn left number long inv h en ez el =
       rw el (record {
         within = run .there at (inv .within) (sym en ∙ ez);
         numbers = turn-right X (run .turns) whole at left number (inv .numbers) h en ez;
       })
 
-  pub run-hit : (left number : ℕ) → Left t X whole at left → 0 < left → number ≡ X .one at → (number ≡ 0 → ⊥) → number ≡ whole
+  pub run-hit : (left number : ℕ) → RunRest t X whole at left → 0 < left → number ≡ X .one at → (number ≡ 0 → ⊥) → number ≡ whole
   run-hit left number inv h en nz = turn-wrong X (run .turns) whole at left number (inv .numbers) h en nz
 
-  pub run-end : (left : ℕ) → Left t X whole at left → left ≤ 0 → 0 ≡ whole
-  run-end left inv h = turn-end X (run .turns) whole at left (inv .numbers) h
+  pub run-done : (left : ℕ) → RunRest t X whole at left → left ≤ 0 → 0 ≡ whole
+  run-done left inv h = turn-end X (run .turns) whole at left (inv .numbers) h
 
 -- The kinds, each parsed from the part of the table that starts at its first byte.
 abbrev pub kindsRun : ℕ → Head → List ℕ → Things

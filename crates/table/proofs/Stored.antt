@@ -1,5 +1,5 @@
 -- Storing a table's kinds, each parsed from the part of the table that starts at its first byte.
-use Prim.Native.Nat.{ℕ, _+_, _-_, _*_, _≤_, _<_}
+use Prim.Native.Nat.{ℕ, _+_, _-_, _≤_, _<_}
 use mathlib.Core.Path.{_≡_, sym, _∙_}
 use mathlib.Core.List.{List, _++_}
 use native.Mathlib.Nat.{le-refl}
@@ -8,7 +8,7 @@ use lib.ListN.{length, getD, take, drop, set, replicate}
 use lib.Seq.{take-all, drop-drop}
 use Rattle.convention.specs.declared.Head.{Head}
 use Rattle.convention.specs.declared.Shape.{Shape}
-use Rattle.convention.specs.Layout.{kindsAt, shapeLength, tableKindAt, statesAt}
+use Rattle.convention.specs.Layout.{kindsAt, tableKindAt}
 use Rattle.convention.specs.Fields.{shapeOf}
 use Rattle.convention.specs.Sheets.{blankShape}
 use Rattle.convention.specs.Tables.{tableKindsOf}
@@ -16,7 +16,7 @@ use Rattle.convention.proofs.Filled.{filled, fill-turn, fill-done}
 use Rattle.convention.proofs.Parts.{rest-of}
 use Rattle.convention.proofs.Positions.{kind-inside}
 use Rattle.convention.proofs.Tables.{table-kinds-count, table-kind-at}
-use Rattle.table.specs.Asked.{KindsThere}
+use Rattle.table.specs.Within.{KindsThere}
 
 module _ (v : ℕ) (h : Head) (t : List ℕ) where
   abbrev all : List Shape

@@ -17,7 +17,7 @@ use Rattle.convention.specs.Tables.{tableKindsNo, transitionsNo, tableNo, table
 use Rattle.convention.proofs.Numbers.{or-first, or-later, part-zero}
 use Rattle.convention.proofs.Fields.{head-there, opening-head}
 use Rattle.convention.proofs.Tables.{table-read}
-use Rattle.table.specs.Asked.{KindsThere}
+use Rattle.table.specs.Within.{KindsThere}
 
 -- An opening that is wrong gives the table's number; one that is right has a head after which the kinds begin.
 pub number-opening : (limit : ℕ) (t : List ℕ) (number : ℕ) → number ≡ openingNo t → (number ≡ 0 → ⊥) → number ≡ tableNo limit t

@@ -1,2 +1,2 @@
-pub mod Asked
+pub mod Within
 pub mod Rows

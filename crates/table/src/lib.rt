@@ -27,7 +27,7 @@ ghost use Rattle.convention.specs.Fields.{partNo, stateField, leftOverNo};
 ghost use Rattle.convention.specs.Sheets.{blankShape};
 ghost use Rattle.convention.specs.Tables.{tableKindsNo, tableKindsOf, transitionOf, isTransition, transitionNo, transitionsNo, tableNo, tableOf, blankTable, readTable, transition, rowNo};
 ghost use Rattle.convention.specs.Promised.{TableRead};
-ghost use Rattle.table.specs.Asked.{KindsThere, InTable};
+ghost use Rattle.table.specs.Within.{KindsThere, InTable};
 ghost use Rattle.table.specs.Rows.{RowPart};
 
 // The number of the kinds, 5 or 3 for the first that is wrong or missing, in a table that is at least as long as its head.

@@ -1,17 +1,16 @@
 -- Why the boundary's fields hold what they say: counts fit, and an answer that is known says what its case says.
-use Prim.Native.Nat.{ℕ, zero, suc, _+_, _*_, _/_, _≤_, _<_, _^_}
+use Prim.Native.Nat.{ℕ, zero, suc, _+_, _*_, _≤_, _<_, _^_}
 use mathlib.Core.Path.{_≡_, refl, sym, _∙_}
 use mathlib.Core.Bool.{Bool, true, false}
 use mathlib.Core.List.{List}
 use native.Mathlib.Omega.{arith}
-use native.Mathlib.Nat.{mul-le-mul}
 use lib.Dec.{ltb, leb}
 use lib.ListN.{length}
 use borrow.Author.Tests.{leb-true, ltb-true, lt-ltb, le-ltb}
-use Rattle.convention.specs.declared.Building.{Building}
-use Rattle.convention.specs.declared.Judging.{Judging}
-use Rattle.convention.specs.declared.Judging.the-variants.{Clean, Fault}
-use Rattle.convention.specs.declared.Placing.{Placing}
+use Rattle.convention.specs.declared.BuildingAnswer.{BuildingAnswer}
+use Rattle.convention.specs.declared.JudgingAnswer.{JudgingAnswer}
+use Rattle.convention.specs.declared.JudgingAnswer.the-variants.{Clean, Fault}
+use Rattle.convention.specs.declared.PlacingAnswer.{PlacingAnswer}
 use Rattle.convention.specs.Numbers.{stateLimit, argumentLimit, orElse, unless, reading, readingNo, refusal, placingSays, buildingSays, judgingSays}
 use Rattle.convention.specs.declared.Head.{Head}
 use Rattle.convention.specs.Layout.{startsAt, rowAt}
@@ -19,11 +18,11 @@ use Rattle.convention.specs.Fields.{versionOf, headOf}
 use Rattle.convention.specs.Tables.{tableNo, tableOf, statesOf, tableKind, readTable, rowNo, row}
 use Rattle.convention.specs.declared.TableAnswer.{TableAnswer}
 use Rattle.convention.specs.declared.SheetAnswer.{SheetAnswer}
-use Rattle.convention.specs.Lists.{Steps, recordLength, unknownAt, faultFrom, stopFrom, stateFrom, placing, placingAnswer, walkAnswer}
-use Rattle.convention.specs.Sheets.{sheetKindAt, firstStartAt, sheetNo, sheetOf, readSheet, sheetKind}
+use Rattle.convention.specs.Lists.{Steps, recordLength, unknownAt, faultFrom, stopFrom, stateFrom, placing, placedOrRefused, walkAnswer}
+use Rattle.convention.specs.Sheets.{sheetKindAt, sheetNo, sheetOf, readSheet, sheetKind}
 use Rattle.convention.specs.Rules.{byRules, placeByRules}
 use Rattle.convention.specs.Walked.{byTable, placeByTable}
-use Rattle.convention.specs.Built.{builtStates, builtTable, buildNo, buildAnswer, build, statesNumber}
+use Rattle.convention.specs.Built.{builtStates, builtTable, buildNo, builtOrRefused, build, statesNumber}
 use Rattle.convention.specs.Judged.{Judges}
 use Rattle.convention.proofs.Lists.{stop-le}
 use Rattle.convention.proofs.Numbers.{or-zero, or-first, or-later, unless-zero}
@@ -38,10 +37,10 @@ use Rattle.teaselram.specs.declared.KindAnswer.{KindAnswer}
 use Rattle.teaselram.specs.Says.{answerOf, askedNo, kindRefusal, kindGiven, sheetKindFields, tableKindFields, sheetKindSays, tableKindSays, rowSays, JudgeSays}
 
 -- An answer that is known to be one of its cases says what that case says.
-pub known-says : (placing known : Placing) (a : Answer) → placing ≡ known → a ≡ answerOf (placingSays known) → a ≡ answerOf (placingSays placing)
+pub known-says : (placing known : PlacingAnswer) (a : Answer) → placing ≡ known → a ≡ answerOf (placingSays known) → a ≡ answerOf (placingSays placing)
 known-says placing known a e is = rw e is
 
-pub known-fits : (placing known : Placing) → placingSays placing .count < 2 ^ 16 → placing ≡ known → placingSays known .count < 2 ^ 16
+pub known-fits : (placing known : PlacingAnswer) → placingSays placing .count < 2 ^ 16 → placing ≡ known → placingSays known .count < 2 ^ 16
 known-fits placing known fits e = rw e at fits
 
 -- A call places at most as many arguments as the limit, so its count is no larger.
@@ -59,23 +58,23 @@ count-most limit number m M ks room = go (orElse number (orElse few roomy)) refl
     walked zero = omega arith
     walked (suc fault) = stop-le M (M .begin) ks
 
-    known : (b : Bool) → ltb (unknownAt m ks) (length ks) ≡ b → placingSays (placingAnswer 0 m M ks) .count ≤ length ks
+    known : (b : Bool) → ltb (unknownAt m ks) (length ks) ≡ b → placingSays (placedOrRefused 0 m M ks) .count ≤ length ks
     known true e = rw e (omega (arith, ltb-true (unknownAt m ks) (length ks) e))
     known false e = rw e (walked (faultFrom M (M .begin) ks))
 
-    go : (n : ℕ) → orElse number (orElse few roomy) ≡ n → placingSays (placingAnswer n m M ks) .count ≤ limit
+    go : (n : ℕ) → orElse number (orElse few roomy) ≡ n → placingSays (placedOrRefused n m M ks) .count ≤ limit
     go zero e =
         let short = leb-true (length ks) limit (unless-zero (leb (length ks) limit) 8 (omega arith) (or-zero few roomy (or-zero number _ e .1) .0)) in
         omega (arith, short, known (ltb (unknownAt m ks) (length ks)) refl)
     go (suc n) e = omega arith
 
 -- The count of placing by the rules fits, and that of placing by a table.
-pub rules-count : (s ks : List ℕ) (room : ℕ) (answer : Placing) → answer ≡ placeByRules argumentLimit s ks room → placingSays answer .count < 2 ^ 16
+pub rules-count : (s ks : List ℕ) (room : ℕ) (answer : PlacingAnswer) → answer ≡ placeByRules argumentLimit s ks room → placingSays answer .count < 2 ^ 16
 unfolding placeByRules
 rules-count s ks room answer e =
     rw e (omega (arith, count-most argumentLimit (sheetNo s) (sheetOf s .head .kinds) (byRules (sheetOf s)) ks room))
 
-pub table-count : (t ks : List ℕ) (room : ℕ) (answer : Placing) → answer ≡ placeByTable stateLimit argumentLimit t ks room → placingSays answer .count < 2 ^ 16
+pub table-count : (t ks : List ℕ) (room : ℕ) (answer : PlacingAnswer) → answer ≡ placeByTable stateLimit argumentLimit t ks room → placingSays answer .count < 2 ^ 16
 unfolding placeByTable
 table-count t ks room answer e =
     rw e (omega (arith, count-most argumentLimit (tableNo stateLimit t) (tableOf t .head .kinds) (byTable (tableOf t) t) ks room))
@@ -201,26 +200,26 @@ module _ (t : List ℕ) (k number : ℕ) (a : TableAnswer) (ea : a ≡ readTable
     table-kind-given answer is = rw (sym table-number ∙ z, is, ea, table-known .0)
 
 -- An answer of building that is known says what its case says; the table's length fits.
-pub known-building : (building known : Building) (a : Answer) → building ≡ known → a ≡ answerOf (buildingSays known) → a ≡ answerOf (buildingSays building)
+pub known-building : (building known : BuildingAnswer) (a : Answer) → building ≡ known → a ≡ answerOf (buildingSays known) → a ≡ answerOf (buildingSays building)
 known-building building known a e is = rw e is
 
-pub length-known : (building known : Building) → buildingSays building .value < 2 ^ 32 → building ≡ known → buildingSays known .value < 2 ^ 32
+pub length-known : (building known : BuildingAnswer) → buildingSays building .value < 2 ^ 32 → building ≡ known → buildingSays known .value < 2 ^ 32
 length-known building known fits e = rw e at fits
 
 -- A verdict that is known says what its case says; its list fits.
-pub known-verdict : (verdict known : Judging) (a : Answer) → verdict ≡ known → a ≡ answerOf (judgingSays known) → a ≡ answerOf (judgingSays verdict)
+pub known-verdict : (verdict known : JudgingAnswer) (a : Answer) → verdict ≡ known → a ≡ answerOf (judgingSays known) → a ≡ answerOf (judgingSays verdict)
 known-verdict verdict known a e is = rw e is
 
-pub list-known : (verdict known : Judging) → judgingSays verdict .count < 2 ^ 16 → verdict ≡ known → judgingSays known .count < 2 ^ 16
+pub list-known : (verdict known : JudgingAnswer) → judgingSays verdict .count < 2 ^ 16 → verdict ≡ known → judgingSays known .count < 2 ^ 16
 list-known verdict known fits e = rw e at fits
 
 -- The length of a table that is built fits.
-pub length-fits : (s : List ℕ) (room : ℕ) (building : Building) → building ≡ build stateLimit s room → buildingSays building .value < 2 ^ 32
+pub length-fits : (s : List ℕ) (room : ℕ) (building : BuildingAnswer) → building ≡ build stateLimit s room → buildingSays building .value < 2 ^ 32
 unfolding build buildNo
 length-fits s room building e = rw e (omega (arith, most (buildNo stateLimit s room) refl))
   where
     most : (n : ℕ) → buildNo stateLimit s room ≡ n
-        → buildingSays (buildAnswer n (length (builtStates stateLimit (sheetOf s))) (length (builtTable stateLimit (sheetOf s)))) .value < 65536
+        → buildingSays (builtOrRefused n (length (builtStates stateLimit (sheetOf s))) (length (builtTable stateLimit (sheetOf s)))) .value < 65536
     most zero z =
         let both = or-zero (sheetNo s) _ z in
         omega (
@@ -231,13 +230,13 @@ length-fits s room building e = rw e (omega (arith, most (buildNo stateLimit s r
     most (suc n) z = omega arith
 
 -- A verdict's list has at most 2N kinds.
-pub list-fits : (t before : List ℕ) (verdict : Judging) (after : List ℕ) → Judges stateLimit t before verdict after → judgingSays verdict .count < 2 ^ 16
+pub verdict-fits : (t before : List ℕ) (verdict : JudgingAnswer) (after : List ℕ) → Judges stateLimit t before verdict after → judgingSays verdict .count < 2 ^ 16
 unfolding Judges
-list-fits t before Clean after means = omega arith
-list-fits t before (Fault fault n) after means =
+verdict-fits t before Clean after means = omega arith
+verdict-fits t before (Fault fault n) after means =
     let promised = table-read stateLimit t (judge-zero stateLimit t (length before) (means .0) .0) in
     omega (arith, means .1, promised .states)
-list-fits t before (Judging.Refused number) after means = omega arith
+verdict-fits t before (JudgingAnswer.Refused number) after means = omega arith
 
 -- Two answers of the judge's call are equal, and so is the memory.
 pub judge-unique : (limit : ℕ) (t before : List ℕ) (a b : Answer) (after after′ : List ℕ)

@@ -5,7 +5,7 @@ use mathlib.Core.List.{List}
 use lib.Dec.{ltb}
 use lib.ListN.{length}
 use Rattle.convention.specs.declared.Head.{Head}
-use Rattle.convention.specs.declared.Judging.{Judging}
+use Rattle.convention.specs.declared.JudgingAnswer.{JudgingAnswer}
 use Rattle.convention.specs.declared.SheetKind.{SheetKind}
 use Rattle.convention.specs.declared.SheetAnswer.{SheetAnswer}
 use Rattle.convention.specs.declared.Shape.{Shape}
@@ -83,6 +83,6 @@ rowSays limit t state = record { number = rowNo limit t state; fault = 0; count 
 
 -- The judge's answer says what a verdict says that `Judges` allows.
 pub record JudgeSays (limit : ℕ) (t before : List ℕ) (a : Answer) (after : List ℕ) : Type 0 where
-  pub verdict : Judging
+  pub verdict : JudgingAnswer
   pub means : Judges limit t before verdict after
   pub says : a ≡ answerOf (judgingSays verdict)

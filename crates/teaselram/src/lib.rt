@@ -1,10 +1,10 @@
 // The static library: the calls of document 01 for C and Rust. A slice is a pointer and a length; nothing is written but `out`.
 // Each answer is one of three structs of eight bytes, by value: 01's number, 0 on success, and the values that 01 names for the
 // answer; every other field is 0.
-use convention::Building;
+use convention::BuildingAnswer;
 use convention::Head;
-use convention::Judging;
-use convention::Placing;
+use convention::JudgingAnswer;
+use convention::PlacingAnswer;
 use convention::Reading;
 use convention::Shape;
 use fields::layout;
@@ -70,63 +70,63 @@ fn refusal(number: u8) -> Answer
 }
 
 // What an answer of placing says in 01's numbers. A call places at most 400 arguments, so the count fits.
-fn placing_says(placing: Placing) -> Answer
+fn placing_says(placing: PlacingAnswer) -> Answer
     requires { ⌜ placingSays placing .count < 2 ^ 16 ⌝ }
     ensures { λ r. ⌜ r ≡ answerOf (placingSays placing) ⌝ }
 {
     match placing {
-        Placing::Placed(n, p) => Answer {
+        PlacingAnswer::Placed(n, p) => Answer {
             number: 0,
             fault: 0,
             count: n as u16,
             value: p.0,
         },
-        Placing::Unknown(at) => Answer {
+        PlacingAnswer::Unknown(at) => Answer {
             number: 9,
             fault: 0,
             count: at as u16,
             value: 0,
         },
-        Placing::Faulty(at, fault) => Answer {
+        PlacingAnswer::Faulty(at, fault) => Answer {
             number: 10,
             fault,
             count: at as u16,
             value: 0,
         },
-        Placing::Refused(number) => refusal(number),
+        PlacingAnswer::Refused(number) => refusal(number),
     }
 }
 
 // What an answer of building says: N and the table's length, which fits.
-fn building_says(building: Building) -> Answer
+fn building_says(building: BuildingAnswer) -> Answer
     requires { ⌜ buildingSays building .value < 2 ^ 32 ⌝ }
     ensures { λ r. ⌜ r ≡ answerOf (buildingSays building) ⌝ }
 {
     match building {
-        Building::Built(n, length) => Answer {
+        BuildingAnswer::Built(n, length) => Answer {
             number: 0,
             fault: 0,
             count: n,
             value: length as u32,
         },
-        Building::Refused(number) => refusal(number),
+        BuildingAnswer::Refused(number) => refusal(number),
     }
 }
 
 // What a verdict says: fault number and list length, both 0 where clean. A list has at most 400 kinds, so its length fits.
-fn judging_says(verdict: Judging) -> Answer
+fn judging_says(verdict: JudgingAnswer) -> Answer
     requires { ⌜ judgingSays verdict .count < 2 ^ 16 ⌝ }
     ensures { λ r. ⌜ r ≡ answerOf (judgingSays verdict) ⌝ }
 {
     match verdict {
-        Judging::Clean => refusal(0),
-        Judging::Fault(fault, n) => Answer {
+        JudgingAnswer::Clean => refusal(0),
+        JudgingAnswer::Fault(fault, n) => Answer {
             number: 0,
             fault,
             count: n as u16,
             value: 0,
         },
-        Judging::Refused(number) => refusal(number),
+        JudgingAnswer::Refused(number) => refusal(number),
     }
 }
 

@@ -5,7 +5,7 @@ use mathlib.Core.List.{List}
 use lib.ListN.{length}
 use Rattle.convention.specs.declared.Table.{Table}
 use Rattle.convention.specs.declared.Offset.{Offset}
-use Rattle.convention.specs.declared.Placing.{Placing}
+use Rattle.convention.specs.declared.PlacingAnswer.{PlacingAnswer}
 use Rattle.convention.specs.declared.Reading.{Reading}
 use Rattle.convention.specs.declared.TableAnswer.{TableAnswer}
 use Rattle.convention.specs.Numbers.{stateLimit, argumentLimit}
@@ -13,9 +13,9 @@ use Rattle.convention.specs.Tables.{readTable, tableOf}
 use Rattle.convention.specs.Walked.{byTable, placeByTable, tableMemory}
 use Rattle.convention.specs.Promised.{TableRead}
 use Rattle.convention.proofs.Tables.{table-read, table-right, table-is, table-refused, table-wrong}
-use Rattle.places.specs.Walks.{WalkIs, ListTested, PlacingIs}
-use Rattle.places.proofs.Calls.{read-answer, read-memory, unread-answer, unread-memory}
-use Rattle.walking.specs.Asked.{WalkAsks, WriteAsks}
+use Rattle.stepping.specs.Walks.{WalkIs, ListTested, PlacingIs}
+use Rattle.stepping.proofs.Calls.{read-answer, read-memory, unread-answer, unread-memory}
+use Rattle.walking.specs.TableSteps.{WalkAsks, WriteAsks}
 
 -- A list that passed its tests can be walked; one without a fault, too, can be written.
 module _ (table : Table) (t ks out : List ℕ) (number at : ℕ) (read : TableRead stateLimit table t)
@@ -32,7 +32,7 @@ module _ (t : List ℕ) (a : TableAnswer) (ea : a ≡ readTable stateLimit t) wh
     pub was-read : TableRead stateLimit (a .table) t
     was-read = rw (table-is stateLimit t a ea e) (table-read stateLimit t (table-right stateLimit t a ea e))
 
-    module _ (ks out : List ℕ) (r : Placing) (after : List ℕ)
+    module _ (ks out : List ℕ) (r : PlacingAnswer) (after : List ℕ)
         (is : PlacingIs argumentLimit (a .table .head .kinds) (byTable (a .table) t) ks out r after) where
       is-by-bytes : PlacingIs argumentLimit (tableOf t .head .kinds) (byTable (tableOf t) t) ks out r after
       is-by-bytes = rw (table-is stateLimit t a ea e) at is
@@ -46,7 +46,7 @@ module _ (t : List ℕ) (a : TableAnswer) (ea : a ≡ readTable stateLimit t) wh
       placed-memory = read-memory argumentLimit _ _ _ ks out (table-right stateLimit t a ea e) r after is-by-bytes
 
   module _ (n : ℕ) (e : a .reading ≡ Reading.Refused n) (ks out : List ℕ) where
-    pub refused-answer : Placing.Refused n ≡ placeByTable stateLimit argumentLimit t ks (length out)
+    pub refused-answer : PlacingAnswer.Refused n ≡ placeByTable stateLimit argumentLimit t ks (length out)
     unfolding placeByTable
     refused-answer = unread-answer argumentLimit _ _ _ ks out n (table-refused stateLimit t a ea n e) (table-wrong stateLimit t a ea n e)
 

@@ -1,10 +1,10 @@
 -- What placing by a table gives where no step is faulty: places that are right for their kinds and apart from one another, and a p within bounds.
-use Prim.Native.Nat.{ℕ, zero, suc, _+_, _*_, _≤_, _<_}
+use Prim.Native.Nat.{ℕ, zero, suc, _+_, _*_, _≤_, _<_, _∣_}
 use mathlib.Core.Path.{_≡_, refl, _∙_}
 use mathlib.Core.Logic.{inl, inr}
-use mathlib.Core.Bool.{Bool, true}
+use mathlib.Core.Bool.{Bool}
 use mathlib.Core.List.{List, [], _∷_}
-use native.Mathlib.Nat.{le-of-suc-le-suc, le-trans}
+use native.Mathlib.Nat.{le-of-suc-le-suc}
 use native.Mathlib.Omega.{arith}
 use lib.ListN.{length, getD}
 use Rattle.convention.specs.declared.Head.{Head}
@@ -15,32 +15,32 @@ use Rattle.convention.specs.declared.Offset.{Offset}
 use Rattle.convention.specs.declared.ByTable.{ByTable}
 use Rattle.convention.specs.declared.Placement.{Placement}
 use Rattle.convention.specs.declared.Placement.the-variants.{Nowhere}
-use Rattle.convention.specs.declared.Placing.the-variants.{Placed}
+use Rattle.convention.specs.declared.PlacingAnswer.the-variants.{Placed}
 use Rattle.convention.specs.Numbers.{stateLimit, argumentLimit}
-use Rattle.convention.specs.Tables.{tableNo, tableKind, transition, isTransition, tableOf}
+use Rattle.convention.specs.Tables.{tableNo, tableKind, transition, tableOf}
 use Rattle.convention.specs.Lists.{faultFrom, stateFrom, placesFrom, KindsBelow}
 use Rattle.convention.specs.Walked.{tablePlace, tableFault, tableAfter, byTable, placeByTable}
 use Rattle.convention.specs.WellPlaced.{Share, Right}
-use Rattle.convention.specs.Promised.{TableRead, HeadRead, ShapeRead}
+use Rattle.convention.specs.Promised.{TableRead}
 use Rattle.convention.proofs.Numbers.{or-zero}
-use Rattle.convention.proofs.Offsets.{least-ge, offset-residue, divides}
-use Rattle.convention.proofs.Tables.{table-read, transition-registers, transition-residue, transition-next}
+use Rattle.convention.proofs.Offsets.{least-ge, offset-residue}
+use Rattle.convention.proofs.Promised.{known-divides, known-run, known-sixteen, known-residue, known-next}
+use Rattle.convention.proofs.Tables.{table-read}
 use Rattle.convention.proofs.Walked.{step-cases, registers-clean, stack-clean}
-use Rattle.places.specs.Walks.{stepMost}
-use Rattle.places.proofs.Accepted.{accepted}
-use Rattle.places.proofs.Apart.{FreeIn, FromP, StepGives, place-length, apart}
+use Rattle.convention.specs.Shapes.{stepMost, pMost}
+use Rattle.stepping.proofs.Accepted.{accepted}
+use Rattle.stepping.proofs.Apart.{FreeIn, FromP, StepGives, place-length, apart}
 use Rattle.walking.proofs.Steps.{reach, step-ends}
 
 -- A step without a fault: its place is right, its registers are free, and its stack bytes begin at p or after it.
 module _ (h : Head) (shape : Shape) (x : Transition) (given : List Bool) (e : tableFault h shape x given ≡ 0) where
-  step-right : HeadRead h → ShapeRead h shape → (x .form ≡ 1 → x .a + x .b ≤ h .registers) → (x .form ≡ 2 → x .a < h .modulus)
+  step-right : shape .alignment ∣ h .modulus → (x .form ≡ 1 → x .a + x .b ≤ h .registers) → (x .form ≡ 2 → x .a < h .modulus)
       → (p : ℕ) → Right h shape (tablePlace h x p)
   unfolding Right
-  step-right head read registers residue p = elim (step-cases h x) [
+  step-right whole registers residue p = elim (step-cases h x) [
     | inl r ↦ rw (r .place p) ((λ q has. omega (arith, registers (r .form))), registers-clean h shape x given e r .1)
     | inr (inl r) ↦
         let (size, multiple) = stack-clean h shape x given e r in
-        let whole = divides (shape .alignment) (h .modulus) (read .alignment) (head .modulus) (read .within) in
         rw (r .place p) (size, offset-residue (shape .alignment) (h .modulus) (x .a) p (residue (r .form)) whole ∙ multiple)
     | inr (inr r) ↦ absurd (omega (arith, e, r .fault shape given))
   ]
@@ -75,14 +75,11 @@ module _ (limit : ℕ) (table : Table) (t : List ℕ) (read : TableRead limit ta
 
   -- One argument, from such a state.
   module _ (s : ByTable) (k : ℕ) (good : Walking table s) (below : k < table .head .kinds) where
-    right : isTransition (table .head) (table .states) (here s k) ≡ true
-    right = read .transition (s .state) k (good .known) below
-
     -- It leads to such a state.
     pub step-walking : Walking table (byTable table t .after s k)
     unfolding tableAfter
     step-walking = record {
-      known = transition-next (table .head) (table .states) (here s k) right (read .some);
+      known = known-next limit table t read k below (s .state) (good .known);
       sixteen = place-length (byTable table t .place s k) (s .given) ∙ good .sixteen;
     }
 
@@ -92,7 +89,7 @@ module _ (limit : ℕ) (table : Table) (t : List ℕ) (read : TableRead limit ta
     unfolding tableAfter
     table-gives = record {
       keeps = step-walking s k good below;
-      within = rw (good .sixteen) (step-ends (table .head) (here s k) (s .p .0) (λ f. le-trans (transition-registers (table .head) (table .states) (here s k) (right s k good below) f) (read .head .registers)));
+      within = rw (good .sixteen) (step-ends (table .head) (here s k) (s .p .0) (known-sixteen limit table t read k below (s .state) (good .known)));
       free = step-free (table .head) (tableKind table k) (here s k) (s .given) e (s .p .0);
       marks = λ r m. m;
       above = step-from (table .head) (here s k) (s .p);
@@ -101,9 +98,8 @@ module _ (limit : ℕ) (table : Table) (t : List ℕ) (read : TableRead limit ta
 
     here-right : Right (table .head) (tableKind table k) (byTable table t .place s k)
     here-right =
-        step-right (table .head) (tableKind table k) (here s k) (s .given) e (read .head) (read .kind k below)
-        (transition-registers (table .head) (table .states) (here s k) (right s k good below))
-        (transition-residue (table .head) (table .states) (here s k) (right s k good below)) (s .p .0)
+        step-right (table .head) (tableKind table k) (here s k) (s .given) e (known-divides limit table t read k below)
+        (known-run limit table t read k below (s .state) (good .known)) (known-residue limit table t read k below (s .state) (good .known)) (s .p .0)
 
     here-reach : byTable table t .after s k .p .0 ≤ s .p .0 + stepMost
     here-reach = reach (table .head) (tableKind table k) (here s k) s (read .head) (read .kind k below) e
@@ -135,8 +131,8 @@ module _ (limit : ℕ) (table : Table) (t : List ℕ) (read : TableRead limit ta
     places = placesFrom (byTable table t) (byTable table t .begin) ks
 
     -- Each argument has a place that is right for its kind: on the stack, its size at a multiple of its alignment.
-    pub table-right : (i : ℕ) → i < length ks → Right (table .head) (tableKind table (getD ks i 0)) (getD places i Nowhere)
-    table-right = each-right (byTable table t .begin) ks begin-walking below e
+    pub places-right : (i : ℕ) → i < length ks → Right (table .head) (tableKind table (getD ks i 0)) (getD places i Nowhere)
+    places-right = each-right (byTable table t .begin) ks begin-walking below e
 
     -- No two arguments share a register or a stack byte.
     pub table-apart : (i j : ℕ) → i < j → j < length ks → Share (getD places i Nowhere) (getD places j Nowhere) → ⊥
@@ -149,7 +145,7 @@ module _ (limit : ℕ) (table : Table) (t : List ℕ) (read : TableRead limit ta
     table-final = omega (arith, p-low (byTable table t .begin) ks begin-walking below e)
 
 -- So of a list that a call has placed: the p that is answered is at most 31,600, which its four bytes hold.
-pub answer-most : (t ks : List ℕ) (room n : ℕ) (p : Offset) → placeByTable stateLimit argumentLimit t ks room ≡ Placed n p → p .0 ≤ 31600
+pub answer-most : (t ks : List ℕ) (room n : ℕ) (p : Offset) → placeByTable stateLimit argumentLimit t ks room ≡ Placed n p → p .0 ≤ pMost argumentLimit
 unfolding placeByTable
 answer-most t ks room n p placed =
     let means = accepted n p argumentLimit (tableNo stateLimit t) (tableOf t .head .kinds) (byTable (tableOf t) t) ks room placed in

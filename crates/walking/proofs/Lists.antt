@@ -14,18 +14,18 @@ use Rattle.convention.specs.Bytes.{written}
 use Rattle.convention.specs.Tables.{tableKind, transition}
 use Rattle.convention.specs.Walked.{byTable}
 use Rattle.convention.proofs.Lists.{known, turn-free}
-use Rattle.table.specs.Asked.{InTable}
-use Rattle.places.specs.Walks.{WalkIs, recordsBefore}
-use Rattle.places.proofs.Walks.{walk-begin, walk-on, walk-hit, walk-end, write-begin, write-on, write-end}
-use Rattle.walking.specs.Asked.{ArgumentAsks, CheckAsks, CheckIs, ArgumentIs, WalkAsks, WriteAsks, Standing, Writing, walkBegin}
+use Rattle.table.specs.Within.{InTable}
+use Rattle.stepping.specs.Walks.{WalkIs, recordsBefore}
+use Rattle.stepping.proofs.Walks.{walk-begin, walk-on, walk-hit, walk-end, write-begin, write-on, write-end}
+use Rattle.walking.specs.TableSteps.{ArgumentAsks, CheckAsks, CheckIs, ArgumentIs, WalkAsks, WriteAsks, TableStanding, TableWriting, walkBegin}
 use Rattle.walking.proofs.Steps.{check-asks, next-state, next-reach}
 
 module _ (table : Table) (t ks : List ℕ) (asks : WalkAsks table t ks) where
   -- Before the first argument.
-  pub standing-begin : (s : ByTable) → s ≡ walkBegin → Standing table t ks s 0
+  pub standing-begin : (s : ByTable) → s ≡ walkBegin → TableStanding table t ks s 0
   standing-begin s e = rw e (record { walk = walk-begin (byTable table t) ks; state = asks .read .some; reach = omega arith })
 
-  module _ (s : ByTable) (i : ℕ) (standing : Standing table t ks s i) (h : i < length ks) where
+  module _ (s : ByTable) (i : ℕ) (standing : TableStanding table t ks s i) (h : i < length ks) where
     -- The next argument can be looked at.
     next-asks : ArgumentAsks table t s (getD ks i 0)
     next-asks = record {
@@ -43,8 +43,8 @@ module _ (table : Table) (t ks : List ℕ) (asks : WalkAsks table t ks) where
     pub next-check : (x : Transition) → x ≡ transition table t (s .state) (getD ks i 0) → CheckAsks (table .head) (tableKind table (getD ks i 0)) x s
     next-check = check-asks table t s (getD ks i 0) next-asks
 
-    -- Behind an argument without a fault.
-    on : (next : ByTable) → byTable table t .fault s (getD ks i 0) ≡ 0 → next ≡ byTable table t .after s (getD ks i 0) → Standing table t ks next (i + 1)
+    -- After an argument without a fault.
+    on : (next : ByTable) → byTable table t .fault s (getD ks i 0) ≡ 0 → next ≡ byTable table t .after s (getD ks i 0) → TableStanding table t ks next (i + 1)
     on next none after =
         rw after
         (record {
@@ -58,30 +58,30 @@ module _ (table : Table) (t ks : List ℕ) (asks : WalkAsks table t ks) where
       found : fault ≡ byTable table t .fault s (getD ks i 0)
       found = rw ex at (check .found)
 
-      pub checked-on : fault ≡ 0 → Standing table t ks next (i + 1)
+      pub checked-on : fault ≡ 0 → TableStanding table t ks next (i + 1)
       checked-on z = on next (sym found ∙ z) (rw ex at (check .after z))
 
       -- At an argument with one.
       pub checked-hit : (p : Offset) → (fault ≡ 0 → ⊥) → WalkIs (byTable table t) ks fault i p
       checked-hit p nz = walk-hit (byTable table t) ks s i fault p (standing .walk) h found nz
 
-  -- Behind the last argument.
-  pub standing-end : (s : ByTable) (i : ℕ) → Standing table t ks s i → length ks ≤ i → WalkIs (byTable table t) ks 0 i (s .p)
+  -- After the last argument.
+  pub standing-end : (s : ByTable) (i : ℕ) → TableStanding table t ks s i → length ks ≤ i → WalkIs (byTable table t) ks 0 i (s .p)
   standing-end s i standing h = walk-end (byTable table t) ks s i (s .p) (standing .walk) h refl
 
--- Writing: before the first argument, at the next one, behind it, and behind the last.
+-- Writing: before the first argument, at the next one, after it, and after the last.
 module _ (table : Table) (t ks before : List ℕ) (asks : WriteAsks table t ks before) where
-  pub writing-begin : (s : ByTable) → s ≡ walkBegin → Writing table t ks before s 0 before
+  pub writing-begin : (s : ByTable) → s ≡ walkBegin → TableWriting table t ks before s 0 before
   writing-begin s e = rw e
       (record { standing = standing-begin table t ks (asks .walk) walkBegin refl; writes = write-begin (byTable table t) ks before })
 
-  module _ (s : ByTable) (i : ℕ) (out : List ℕ) (writing : Writing table t ks before s i out) where
+  module _ (s : ByTable) (i : ℕ) (out : List ℕ) (writing : TableWriting table t ks before s i out) where
     module _ (h : i < length ks) where
       pub writing-asks : ArgumentAsks table t s (getD ks i 0)
       writing-asks = next-asks table t ks (asks .walk) s i (writing .standing) h
 
       pub writing-on : (place : Placement) (next : ByTable) (after : List ℕ) → ArgumentIs table t s (getD ks i 0) place next
-          → after ≡ written out (6 * i) (recordOf place) → Writing table t ks before next (i + 1) after
+          → after ≡ written out (6 * i) (recordOf place) → TableWriting table t ks before next (i + 1) after
       writing-on place next after argument ea =
           let none = turn-free (byTable table t) s ks i h (writing .standing .walk .fault ∙ asks .free) in
           record {

@@ -2,8 +2,6 @@
 use Prim.Native.Nat.{ℕ, _+_, _≤_, _<_, _^_}
 use mathlib.Core.Logic.{inl, inr}
 use mathlib.Core.Path.{_≡_, refl, sym, _∙_}
-use mathlib.Core.Bool.{true}
-use native.Mathlib.Nat.{le-trans}
 use mathlib.Core.List.{List}
 use native.Mathlib.Omega.{arith}
 use lib.Dec.{lit<}
@@ -14,17 +12,17 @@ use Rattle.convention.specs.declared.Transition.{Transition}
 use Rattle.convention.specs.declared.ByTable.{ByTable}
 use Rattle.convention.specs.declared.Placement.{Placement}
 use Rattle.convention.specs.Numbers.{stateLimit}
-use Rattle.convention.specs.Tables.{tableKind, transition, isTransition}
+use Rattle.convention.specs.Tables.{tableKind, transition}
 use Rattle.convention.specs.Walked.{tablePlace, tableFault, tableAfter, byTable}
 use Rattle.convention.specs.Promised.{HeadRead, ShapeRead, TableRead}
 use Rattle.convention.proofs.Shapes.{stack-most}
 use Rattle.convention.proofs.Offsets.{least-lt, modulus-pos, modulus-most}
-use Rattle.convention.proofs.Tables.{transition-registers, transition-residue, transition-next}
+use Rattle.convention.proofs.Promised.{known-aligned, known-sixteen, known-residue, known-next}
 use Rattle.convention.proofs.Walked.{step-cases, stack-clean, step-next}
-use Rattle.table.specs.Asked.{InTable}
-use Rattle.places.specs.Ends.{runEnd, stackEnd}
-use Rattle.places.specs.Walks.{stepMost}
-use Rattle.walking.specs.Asked.{FaultAsks, PlaceAsks, StepIs, ArgumentAsks, CheckAsks, CheckIs, ArgumentIs}
+use Rattle.table.specs.Within.{InTable}
+use Rattle.stepping.specs.Ends.{runEnd, stackEnd}
+use Rattle.convention.specs.Shapes.{stepMost}
+use Rattle.walking.specs.TableSteps.{FaultAsks, PlaceAsks, TableStepIs, ArgumentAsks, CheckAsks, CheckIs, ArgumentIs}
 
 -- A step without a fault takes p at most `stepMost` bytes further: less than 16 are skipped, and a kind has at most 64.
 pub reach : (h : Head) (shape : Shape) (x : Transition) (s : ByTable) → HeadRead h → ShapeRead h shape → tableFault h shape x (s .given) ≡ 0
@@ -63,20 +61,17 @@ module _ (table : Table) (t : List ℕ) (state k : ℕ) (read : TableRead stateL
   abbrev here : Transition
   here = transition table t state k
 
-  right : isTransition (table .head) (table .states) here ≡ true
-  right = read .transition state k (inside .state) (inside .kind)
-
   run : here .form ≡ 1 → here .a + here .b ≤ 16
-  run e = le-trans (transition-registers (table .head) (table .states) here right e) (read .head .registers)
+  run = known-sixteen stateLimit table t read k (inside .kind) state (inside .state)
 
   pub fault-asks : (shape : Shape) (x : Transition) → shape ≡ tableKind table k → x ≡ here → FaultAsks shape x
-  fault-asks shape x ek ex = rw (ek, ex) (record { run = run; aligned = modulus-pos (tableKind table k .alignment) (read .kind k (inside .kind) .alignment) })
+  fault-asks shape x ek ex = rw (ek, ex) (record { run = run; aligned = known-aligned stateLimit table t read k (inside .kind) })
 
   pub give-asks : (x : Transition) → x ≡ here → x .form ≡ 1 → x .a + x .b ≤ 16
   give-asks x ex = rw ex run
 
   pub state-inside : (x : Transition) → x ≡ here → x .next < table .states
-  state-inside x ex = rw ex (transition-next (table .head) (table .states) here right (read .some))
+  state-inside x ex = rw ex (known-next stateLimit table t read k (inside .kind) state (inside .state))
 
 -- and its place; and what it gives.
 module _ (table : Table) (t : List ℕ) (s : ByTable) (k : ℕ) (asks : ArgumentAsks table t s k) where
@@ -88,7 +83,7 @@ module _ (table : Table) (t : List ℕ) (s : ByTable) (k : ℕ) (asks : Argument
       rw (eh, ex)
       (record {
         run = run table t (s .state) k (asks .read) (asks .inside);
-        residue = transition-residue (table .head) (table .states) there (right table t (s .state) k (asks .read) (asks .inside));
+        residue = known-residue stateLimit table t (asks .read) k (asks .inside .kind) (s .state) (asks .inside .state);
         modulus = modulus-most (table .head .modulus) (asks .read .head .modulus);
         room = omega (arith, asks .reach);
       })
@@ -106,9 +101,9 @@ module _ (table : Table) (t : List ℕ) (s : ByTable) (k : ℕ) (asks : Argument
   pub next-reach : byTable table t .fault s k ≡ 0 → byTable table t .after s k .p .0 ≤ s .p .0 + stepMost
   next-reach e = reach (table .head) (tableKind table k) there s (asks .read .head) (asks .read .kind k (asks .inside .kind)) e
 
--- What a step's place and the state behind it say of the argument.
+-- What a step's place and the state after it say of the argument.
 pub argument-is : (table : Table) (t : List ℕ) (s : ByTable) (k : ℕ) (h : Head) (x : Transition) (place : Placement) (next : ByTable)
-    → h ≡ table .head → x ≡ transition table t (s .state) k → StepIs h x s place next → ArgumentIs table t s k place next
+    → h ≡ table .head → x ≡ transition table t (s .state) k → TableStepIs h x s place next → ArgumentIs table t s k place next
 argument-is table t s k h x place next eh ex step = record { placed = rw (ex, eh) at (step .placed); after = rw (ex, eh) at (step .after) }
 
 -- What its fault says, where there is one and where there is none.
@@ -116,5 +111,5 @@ module _ (h : Head) (shape : Shape) (x : Transition) (s : ByTable) (fault : ℕ)
   pub check-hit : (next : ByTable) → (fault ≡ 0 → ⊥) → CheckIs h shape x s fault next
   check-hit next nz = record { found = found; after = λ z. absurd (nz z) }
 
-  pub check-on : (place : Placement) (next : ByTable) → fault ≡ 0 → StepIs h x s place next → CheckIs h shape x s 0 next
+  pub check-on : (place : Placement) (next : ByTable) → fault ≡ 0 → TableStepIs h x s place next → CheckIs h shape x s 0 next
   check-on place next z step = record { found = sym z ∙ found; after = λ zero. step .after }

@@ -23,11 +23,11 @@ use Rattle.convention.specs.Judged.{listFault}
 use Rattle.convention.specs.WellPlaced.{HasRegister, Share, Right, WellPlaced}
 use Rattle.convention.specs.Promised.{TableRead}
 use Rattle.convention.proofs.Numbers.{or-on, unless-true}
-use Rattle.convention.proofs.Offsets.{offset-residue, divides}
-use Rattle.convention.proofs.Tables.{transition-residue}
+use Rattle.convention.proofs.Offsets.{offset-residue}
+use Rattle.convention.proofs.Promised.{known-divides, known-residue}
 use Rattle.convention.proofs.Walked.{step-cases}
 use Rattle.convention.proofs.Runs.{either, none-taken, free-some, mark-out}
-use Rattle.walking.proofs.Given.{Walking, begin-walking, step-walking, table-right, table-apart}
+use Rattle.walking.proofs.Given.{Walking, begin-walking, step-walking, places-right, table-apart}
 
 -- What is taken once a place was given out is the place's, or was taken before.
 taken-whose : (place : Placement) (taken : List Bool) (r : ℕ) → getD (placeTaken place taken) r false ≡ true
@@ -61,11 +61,8 @@ module _ (limit : ℕ) (table : Table) (t : List ℕ) (read : TableRead limit ta
       ])
       | inr (inl r) ↦
           let (size, multiple) = rw (r .place (s .p .0)) at fit in
-          let shape = read .kind k below in
-          let whole = divides (kind .alignment) (table .head .modulus) (shape .alignment) (read .head .modulus) (shape .within) in
-          let within = read .transition (s .state) k (good .known) below in
-          let residue = transition-residue (table .head) (table .states) x within (r .form) in
-          let stored = offset-residue (kind .alignment) (table .head .modulus) (x .a) (s .p .0) residue whole in
+          let residue = known-residue limit table t read k below (s .state) (good .known) (r .form) in
+          let stored = offset-residue (kind .alignment) (table .head .modulus) (x .a) (s .p .0) residue (known-divides limit table t read k below) in
           rw (r .fault kind (s .given)) (or-on _ _ (unless-true _ 3 (eq-eqb _ _ size)) ∙ unless-true _ 4 (eq-eqb _ 0 (sym stored ∙ multiple)))
       | inr (inr r) ↦ absurd (rw (r .place (s .p .0)) at fit)
     ]
@@ -100,7 +97,7 @@ module _ (limit : ℕ) (table : Table) (t : List ℕ) (read : TableRead limit ta
 pub well-placed : (limit : ℕ) (t ks : List ℕ) → TableRead limit (tableOf t) t → KindsBelow (tableOf t .head .kinds) ks
     → (listFault t ks ≡ 0) ↔ WellPlaced t ks
 well-placed limit t ks read below = (
-  λ e. record { right = table-right limit (tableOf t) t read ks below e; apart = table-apart limit (tableOf t) t read ks below e },
+  λ e. record { right = places-right limit (tableOf t) t read ks below e; apart = table-apart limit (tableOf t) t read ks below e },
   λ w. faultless limit (tableOf t) t read (λ a. ⊥) _ ks (begin-walking limit (tableOf t) t read) below
       (λ r e. absurd (true≢false (sym e ∙ none-taken 16 r))) (w .right) (λ a never. absurd never) (w .apart),
 )

@@ -1,1 +1,1 @@
-pub mod Asked
+pub mod TableSteps

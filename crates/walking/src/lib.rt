@@ -3,14 +3,15 @@ use convention::ByTable;
 use convention::Head;
 use convention::Offset;
 use convention::Placement;
-use convention::Placing;
+use convention::PlacingAnswer;
+use convention::RECORD_LENGTH;
 use convention::Reading;
 use convention::Reg;
 use convention::Shape;
 use convention::Table;
 use convention::Transition;
 use fields::shapes;
-use places::Walk;
+use stepping::Walk;
 ghost use mathlib.Core.Path.{_≡_};
 ghost use Prim.Native.Nat.{_+_, _≤_, _<_};
 ghost use lib.ListN.{length};
@@ -18,15 +19,15 @@ ghost use Rattle.convention.specs.Numbers.{stateLimit, argumentLimit};
 ghost use Rattle.convention.specs.Promised.{TableRead};
 ghost use Rattle.convention.specs.Lists.{faultFrom};
 ghost use Rattle.convention.specs.Walked.{registersFault, stackFault, tableFault, tablePlace, byTable, placeByTable, tableMemory};
-ghost use Rattle.places.specs.Walks.{WalkIs, PlacingIs, recordsBefore};
-ghost use Rattle.walking.specs.Asked.{FaultAsks, PlaceAsks, StepIs, ArgumentAsks, CheckAsks, CheckIs, ArgumentIs, KnownAsks, WalkAsks, WriteAsks, walkBegin, givenAfter};
+ghost use Rattle.stepping.specs.Walks.{WalkIs, PlacingIs, recordsBefore};
+ghost use Rattle.walking.specs.TableSteps.{FaultAsks, PlaceAsks, TableStepIs, ArgumentAsks, CheckAsks, CheckIs, ArgumentIs, KnownAsks, WalkAsks, WriteAsks, walkBegin, givenAfter};
 
 // Faults 2 and 3 of a step that gives registers.
 fn registers_fault(head: Head, shape: Shape, x: Transition, given: [bool; 16]) -> u8
     requires { ⌜ x .a + x .b ≤ 16 ⌝ }
     ensures { λ r. ⌜ r ≡ registersFault head shape x given ⌝ }
 {
-    let free = fields::unless(places::free_run(given, Reg(x.a), x.b), 2);
+    let free = fields::unless(stepping::free_run(given, Reg(x.a), x.b), 2);
     let right = fields::unless(shapes::right_count(head.width, x.b, shape), 3);
     fields::or_else(free, right)
 }
@@ -65,33 +66,33 @@ fn place(head: Head, x: Transition, s: ByTable) -> Placement
     }
     if x.form == 2 {
         let p = s.p;
-        return Placement::Stack(places::least_offset(head.modulus, x.a, p), x.b);
+        return Placement::Stack(stepping::least_offset(head.modulus, x.a, p), x.b);
     }
     Placement::Nowhere
 }
 
-// One argument placed: its place, and how far placing has come behind it.
-pub struct Stepped {
+// One argument placed: its place, and how far placing has come after it.
+pub struct TableStep {
     pub place: Placement,
     pub next: ByTable,
 }
 
 // One step by a transition, whatever its fault, from wherever there is room for the most that an argument takes.
-fn step(head: Head, x: Transition, s: ByTable) -> Stepped
+fn step(head: Head, x: Transition, s: ByTable) -> TableStep
     requires { ⌜ PlaceAsks head x s ⌝ }
-    ensures { λ r. ⌜ StepIs head x s (r .place) (r .next) ⌝ }
+    ensures { λ r. ⌜ TableStepIs head x s (r .place) (r .next) ⌝ }
 {
     let found = place(head, x, s);
     let before = s.given;
     let at = s.p;
-    let given = places::place_taken(found, before);
-    let p = places::place_p(found, at);
+    let given = stepping::place_taken(found, before);
+    let p = stepping::place_p(found, at);
     let next = ByTable {
         state: x.next,
         given,
         p,
     };
-    Stepped { place: found, next }
+    TableStep { place: found, next }
 }
 
 // State 0, no register given, and p = 0.
@@ -105,7 +106,7 @@ fn begin() -> ByTable
     }
 }
 
-// One argument looked at: its step's fault, and how far placing has come behind it if there is none.
+// One argument looked at: its step's fault, and how far placing has come after it if there is none.
 pub struct Checked {
     pub fault: u8,
     pub next: ByTable,
@@ -127,7 +128,7 @@ fn check(head: Head, shape: Shape, x: Transition, s: ByTable) -> Checked
 }
 
 // Places one argument, of a kind of a table that was read, where its step has no fault. One transition is read.
-fn argument(table: Table, t: &[u8], s: ByTable, k: u8) -> Stepped
+fn argument(table: Table, t: &[u8], s: ByTable, k: u8) -> TableStep
     requires { ⌜ ArgumentAsks table (now t) s k ⌝ }
     ensures { λ r. ⌜ ArgumentIs table (now (t .entry)) s k (r .place) (r .next) ⌝ }
 {
@@ -174,7 +175,7 @@ fn give(x: Transition, given: [bool; 16]) -> [bool; 16]
     ensures { λ r. ⌜ r ≡ givenAfter x given ⌝ }
 {
     if x.form == 1 {
-        return places::mark_run(given, Reg(x.a), x.b);
+        return stepping::mark_run(given, Reg(x.a), x.b);
     }
     given
 }
@@ -215,7 +216,7 @@ fn write_list(table: Table, t: &[u8], list: &[u8], out: &mut [u8])
     while i < list.len() {
         let stepped = argument(table, t, s, list[i]);
         let place = stepped.place;
-        places::write_record(place, out, 6 * i);
+        stepping::write_record(place, out, RECORD_LENGTH * i);
         s = stepped.next;
         i += 1;
     }
@@ -223,16 +224,16 @@ fn write_list(table: Table, t: &[u8], list: &[u8], out: &mut [u8])
 
 // Places a list by a table that was read, in 01's order of refusals: 8, 12, 9, 10. Its records are written only where no step
 // is faulty.
-fn place_list(table: Table, t: &[u8], list: &[u8], out: &mut [u8]) -> Placing
+fn place_list(table: Table, t: &[u8], list: &[u8], out: &mut [u8]) -> PlacingAnswer
     requires { ⌜ TableRead stateLimit table (now t) ⌝ }
     ensures { λ r. ⌜ PlacingIs argumentLimit (table .head .kinds) (byTable table (now (t .entry))) (now (list .entry)) (now (out .entry)) r (now (out .exit)) ⌝ }
 {
-    let tested = places::test_list(table.head.kinds, list, out.len());
+    let tested = stepping::test_list(table.head.kinds, list, out.len());
     if tested.number != 0 {
-        return places::refusal_answer(tested);
+        return stepping::refusal_answer(tested);
     }
     let walked = walk(table, t, list);
-    let answer = places::walk_answer(walked, list.len());
+    let answer = stepping::walk_answer(walked, list.len());
     if walked.fault == 0 {
         write_list(table, t, list, out);
     }
@@ -240,14 +241,14 @@ fn place_list(table: Table, t: &[u8], list: &[u8], out: &mut [u8]) -> Placing
 }
 
 // Places a list of kinds by a table: the records in the first bytes of `out`, or a refusal that writes nothing.
-pub fn place_by_table(t: &[u8], list: &[u8], out: &mut [u8]) -> Placing
+pub fn place_by_table(t: &[u8], list: &[u8], out: &mut [u8]) -> PlacingAnswer
     ensures { λ r. ⌜ r ≡ placeByTable stateLimit argumentLimit (now (t .entry)) (now (list .entry)) (length (now (out .entry))) ⌝ }
     ensures { λ _. ⌜ now (out .exit) ≡ tableMemory stateLimit argumentLimit (now (t .entry)) (now (list .entry)) (now (out .entry)) ⌝ }
 {
     let read = table::read_table(t);
     let reading = read.reading;
     match reading {
-        Reading::Refused(number) => Placing::Refused(number),
+        Reading::Refused(number) => PlacingAnswer::Refused(number),
         Reading::Read => {
             let table = read.table;
             place_list(table, t, list, out)

@@ -1,5 +1,5 @@
 //! Safe Rust over the proved static library. Each call takes slices and answers a `Result`; what it means is told in docs/FORMAT.md.
-//! A refusal leaves `out` as it was, and a success leaves the bytes behind what it writes.
+//! A refusal leaves `out` as it was, and a success leaves the bytes after what it writes untouched.
 //!
 //! ```
 //! # fn main() -> Result<(), teaselram::Refusal> {

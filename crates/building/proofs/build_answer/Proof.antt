@@ -1,11 +1,11 @@
 -- `build_answer`: a number that is not 0 refuses.
-use Rattle.building.proofs.Answering.{answer-refused, answer-built}
+use Rattle.building.proofs.Answering.{number-refused, answer-built}
 use borrow.Author.Needs.{needs}
 use Rattle.building.proofs.build_answer.Statement.{statement}
 use Rattle.building.proofs.build_answer.Tie as tie
 
 returns : tie.Need-returns
-returns c = search (answer-refused, needs)
+returns c = search (number-refused, needs)
 
 cast-t5 : tie.Need-cast-t5
 cast-t5 c = search needs

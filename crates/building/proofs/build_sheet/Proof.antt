@@ -1,5 +1,5 @@
 -- `build_sheet`: the number is that of 'Building: 11, 12'; where it is 0 the states are all there, and the length is the table's.
-use Rattle.building.proofs.Answering.{table-asks, table-built, table-refused}
+use Rattle.building.proofs.Answering.{table-asks, table-built, build-refused}
 use mathlib.Core.Path.{_≡_}
 use native.Mathlib.Omega.{arith}
 use borrow.Author.Needs.{needs}
@@ -44,7 +44,7 @@ returns c =
     search (table-built, needs)
 
 returns-2 : tie.Need-returns-2
-returns-2 c = search (table-refused, needs)
+returns-2 c = search (build-refused, needs)
 
 pub build-sheet-spec : {M : Type 1} → statement M
 build-sheet-spec =

@@ -16,8 +16,8 @@ abbrev μ-loop : tie.MeasureT-loop
 first-state-requires : tie.Need-first-state-requires Inv-loop μ-loop
 first-state-requires c κs = search needs
 
-meet-requires : tie.Need-meet-requires Inv-loop μ-loop
-meet-requires c κs = search needs
+meet-state-requires : tie.Need-meet-state-requires Inv-loop μ-loop
+meet-state-requires c κs = search needs
 
 loop-holds : tie.Need-loop-holds Inv-loop μ-loop
 loop-holds c = search (exploring-begin, needs)
@@ -28,8 +28,8 @@ same-length c = search needs
 returns : tie.Need-returns Inv-loop μ-loop
 returns c = search (exploring-over, needs)
 
-visit-requires : tie.Need-visit-requires Inv-loop μ-loop
-visit-requires c κs = search needs
+pass-kinds-requires : tie.Need-pass-kinds-requires Inv-loop μ-loop
+pass-kinds-requires c κs = search needs
 
 add-i : tie.Need-add-i Inv-loop μ-loop
 add-i c = search needs
@@ -53,11 +53,11 @@ explore-spec =
     Inv-loop
     μ-loop
     first-state-requires
-    meet-requires
+    meet-state-requires
     loop-holds
     same-length
     returns
-    visit-requires
+    pass-kinds-requires
     add-i
     loop-less
     loop-again

@@ -1,5 +1,4 @@
 -- `field_a`: on the stack the residue; any other number is a byte.
-use native.Mathlib.Omega.{arith}
 use borrow.Author.Tests.{eq-eqb, ne-eqb}
 use borrow.Author.Needs.{needs}
 use Rattle.building.proofs.field_a.Statement.{statement}

@@ -1,5 +1,5 @@
--- `lead`: the rules' step at p = the remainder; the state behind it stands in the next allocation state.
-use Rattle.building.proofs.Leading.{step-asks, modulus-some, led}
+-- `lead`: the rules' step at p = the remainder; the state after it stands in the next allocation state.
+use Rattle.building.proofs.Leading.{rules-step-asks, modulus-some, led}
 use borrow.Author.Needs.{needs}
 use Rattle.building.proofs.lead.Statement.{statement}
 use Rattle.building.proofs.lead.Tie as tie
@@ -8,7 +8,7 @@ cast-t10 : tie.Need-cast-t10
 cast-t10 c = search needs
 
 step-requires : tie.Need-step-requires
-step-requires c κs = search (step-asks, needs)
+step-requires c κs = search (rules-step-asks, needs)
 
 allocation-requires : tie.Need-allocation-requires
 allocation-requires c κs = search (modulus-some, needs)

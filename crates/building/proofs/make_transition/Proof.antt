@@ -4,17 +4,17 @@ use borrow.Author.Needs.{needs}
 use Rattle.building.proofs.make_transition.Statement.{statement}
 use Rattle.building.proofs.make_transition.Tie as tie
 
-spell-requires : tie.Need-spell-requires
-spell-requires c κs = search needs
+parts-of-requires : tie.Need-parts-of-requires
+parts-of-requires c κs = search needs
 
 field-a-requires : tie.Need-field-a-requires
 field-a-requires c κs = search needs
 
 returns : tie.Need-returns
-returns c = rw (c .before .before .field-a .ensures, ← c .before .before .before .spell .ensures .0, eq-eqb _ _ (c .if1 .taken))
+returns c = rw (c .before .before .field-a .ensures, ← c .before .before .before .parts-of .ensures .0, eq-eqb _ _ (c .if1 .taken))
 
 returns-2 : tie.Need-returns-2
-returns-2 c = rw (c .before .before .field-a .ensures, ← c .before .before .before .spell .ensures .0, ne-eqb _ _ (c .if1 .left))
+returns-2 c = rw (c .before .before .field-a .ensures, ← c .before .before .before .parts-of .ensures .0, ne-eqb _ _ (c .if1 .left))
 
 pub make-transition-spec : {M : Type 1} → statement M
-make-transition-spec = tie.close (tie.spec spell-requires field-a-requires returns returns-2)
+make-transition-spec = tie.close (tie.spec parts-of-requires field-a-requires returns returns-2)

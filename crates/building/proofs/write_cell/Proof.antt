@@ -8,8 +8,8 @@ use Rattle.building.proofs.write_cell.Tie as tie
 lead-requires : tie.Need-lead-requires
 lead-requires c κs = search needs
 
-find-requires : tie.Need-find-requires
-find-requires c κs = search needs
+find-state-requires : tie.Need-find-state-requires
+find-state-requires c κs = search needs
 
 cast-make-transition : tie.Need-cast-make-transition
 cast-make-transition c = search needs
@@ -31,7 +31,7 @@ write-cell-spec =
     tie.close
     (tie.spec
     lead-requires
-    find-requires
+    find-state-requires
     cast-make-transition
     make-transition-requires
     write-transition-requires

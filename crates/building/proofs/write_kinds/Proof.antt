@@ -2,14 +2,14 @@
 use Prim.Native.Nat.{_-_}
 use Rattle.convention.specs.Layout.{kindsAt}
 use Rattle.convention.specs.Built.{builtKind}
-use Rattle.building.specs.Writing.{BlocksLeft}
+use Rattle.building.specs.Writing.{BlocksSoFar}
 use Rattle.building.proofs.Writing.{blocks-begin, kind-room, kind-on, blocks-end}
 use borrow.Author.Needs.{needs}
 use Rattle.building.proofs.write_kinds.Statement.{statement}
 use Rattle.building.proofs.write_kinds.Tie as tie
 
 abbrev Inv-loop : tie.InvT-loop
-Inv-loop out₀ sheet version kinds k₀ out k = BlocksLeft (builtKind sheet) kindsAt k kinds out₀ out
+Inv-loop out₀ sheet version kinds k₀ out k = BlocksSoFar (builtKind sheet) kindsAt k kinds out₀ out
 
 abbrev μ-loop : tie.MeasureT-loop
 μ-loop out₀ sheet version kinds k₀ out k = kinds - k

@@ -3,14 +3,14 @@ use Prim.Native.Nat.{_-_}
 use Rattle.convention.specs.Numbers.{stateLimit}
 use Rattle.convention.specs.Layout.{rowAt}
 use Rattle.convention.specs.Built.{builtVersion, builtCell, builtStates}
-use Rattle.building.specs.Writing.{BlocksLeft}
+use Rattle.building.specs.Writing.{BlocksSoFar}
 use Rattle.building.proofs.Writing.{blocks-begin, cell-asks, cell-on, row-end}
 use borrow.Author.Needs.{needs}
 use Rattle.building.proofs.write_row.Statement.{statement}
 use Rattle.building.proofs.write_row.Tie as tie
 
 abbrev Inv-loop : tie.InvT-loop
-Inv-loop states count i out₀ sheet from version head kinds k₀ out k = BlocksLeft (builtCell sheet (builtStates stateLimit sheet) from) (rowAt (builtVersion sheet) (sheet .head) i) k kinds out₀ out
+Inv-loop states count i out₀ sheet from version head kinds k₀ out k = BlocksSoFar (builtCell sheet (builtStates stateLimit sheet) from) (rowAt (builtVersion sheet) (sheet .head) i) k kinds out₀ out
 
 abbrev μ-loop : tie.MeasureT-loop
 μ-loop states count i out₀ sheet from version head kinds k₀ out k = kinds - k

@@ -3,14 +3,14 @@ use Prim.Native.Nat.{_-_}
 use Rattle.convention.specs.Numbers.{stateLimit}
 use Rattle.convention.specs.Layout.{rowsAt}
 use Rattle.convention.specs.Built.{builtVersion, builtRow, builtStates}
-use Rattle.building.specs.Writing.{BlocksLeft}
+use Rattle.building.specs.Writing.{BlocksSoFar}
 use Rattle.building.proofs.Writing.{blocks-begin, row-asks, row-on, blocks-end}
 use borrow.Author.Needs.{needs}
 use Rattle.building.proofs.write_rows.Statement.{statement}
 use Rattle.building.proofs.write_rows.Tie as tie
 
 abbrev Inv-loop : tie.InvT-loop
-Inv-loop sheet states count out₀ i₀ out i = BlocksLeft (builtRow sheet (builtStates stateLimit sheet)) (rowsAt (builtVersion sheet) (sheet .head)) i count out₀ out
+Inv-loop sheet states count out₀ i₀ out i = BlocksSoFar (builtRow sheet (builtStates stateLimit sheet)) (rowsAt (builtVersion sheet) (sheet .head)) i count out₀ out
 
 abbrev μ-loop : tie.MeasureT-loop
 μ-loop sheet states count out₀ i₀ out i = count - i

@@ -1,4 +1,4 @@
--- `write_table`: what stands before the rows, and the rows behind it.
+-- `write_table`: what stands before the rows, and the rows after it.
 use Rattle.building.proofs.Writing.{table-written}
 use borrow.Author.Needs.{needs}
 use Rattle.building.proofs.write_table.Statement.{statement}

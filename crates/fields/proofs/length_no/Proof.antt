@@ -1,4 +1,4 @@
--- `length_no`: fewer than two bytes, or the field against the count behind it.
+-- `length_no`: fewer than two bytes, or the field against the count of bytes after it.
 use borrow.Author.Tests.{lt-leb, le-leb, eq-eqb, ne-eqb}
 use borrow.Author.Needs.{needs}
 use Rattle.fields.proofs.length_no.Statement.{statement}

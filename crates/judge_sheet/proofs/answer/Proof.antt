@@ -1,13 +1,13 @@
 -- `answer`: no table needs more room than there is, one that was built can be judged, and each answer is the text that the program prints.
 use Rattle.convention.specs.Layout.{shapeLength, stateLength}
 use borrow.Author.Needs.{needs}
-use Rattle.judge_sheet.proofs.Builds.{table-within, table-long, table-asks}
-use Rattle.judge_sheet.proofs.Answers.{refused-room, prints-long, prints-refused, prints-built}
+use Rattle.judge_sheet.proofs.Builds.{table-within, table-long, table-line-asks}
+use Rattle.judge_sheet.proofs.Answers.{refusal-room, prints-long, prints-refused, prints-built}
 use Rattle.judge_sheet.proofs.answer.Statement.{statement}
 use Rattle.judge_sheet.proofs.answer.Tie as tie
 
 write-refused-requires : tie.Need-write-refused-requires
-write-refused-requires c κs = search (refused-room, needs)
+write-refused-requires c κs = search (refusal-room, needs)
 
 same-length : tie.Need-same-length
 same-length c = search needs
@@ -34,13 +34,13 @@ slice-aggregate-table-line : tie.Need-slice-aggregate-table-line
 slice-aggregate-table-line c = search (table-long, needs)
 
 table-line-requires : tie.Need-table-line-requires
-table-line-requires c κs = search (table-asks, needs)
+table-line-requires c κs = search (table-line-asks, needs)
 
 enum-known-building-2 : tie.Need-enum-known-building-2
 enum-known-building-2 c = search needs
 
 write-refused-requires-2 : tie.Need-write-refused-requires-2
-write-refused-requires-2 c κs = search (refused-room, needs)
+write-refused-requires-2 c κs = search (refusal-room, needs)
 
 same-length-2 : tie.Need-same-length-2
 same-length-2 c = search needs

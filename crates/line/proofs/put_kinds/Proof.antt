@@ -4,13 +4,13 @@ use native.Mathlib.Omega.{arith}
 use lib.ListN.{length, drop}
 use borrow.Author.Needs.{needs}
 use Rattle.convention.specs.Program.{kindFields}
-use Rattle.line.specs.Appended.{Left}
+use Rattle.line.specs.Appended.{FieldRest}
 use Rattle.line.proofs.Appending.{kinds, items-begin, item-room, item-on, items-end}
 use Rattle.line.proofs.put_kinds.Statement.{statement}
 use Rattle.line.proofs.put_kinds.Tie as tie
 
 abbrev Inv-loop : tie.InvT-loop
-Inv-loop out₀ at list next₀ i₀ out next i = Left out₀ at (kindFields list) out next (kindFields (drop i list))
+Inv-loop out₀ at list next₀ i₀ out next i = FieldRest out₀ at (kindFields list) out next (kindFields (drop i list))
 
 abbrev μ-loop : tie.MeasureT-loop
 μ-loop out₀ at list next₀ i₀ out next i = length list - i

@@ -2,13 +2,13 @@
 use Prim.Native.Nat.{_-_}
 use lib.ListN.{length, drop}
 use borrow.Author.Needs.{needs}
-use Rattle.line.specs.Appended.{Left}
+use Rattle.line.specs.Appended.{FieldRest}
 use Rattle.line.proofs.Appending.{bytes, items-begin, item-room, item-on, items-end}
 use Rattle.line.proofs.put_word.Statement.{statement}
 use Rattle.line.proofs.put_word.Tie as tie
 
 abbrev Inv-loop : tie.InvT-loop
-Inv-loop out₀ at word next₀ i₀ out next i = Left out₀ at word out next (drop i word)
+Inv-loop out₀ at word next₀ i₀ out next i = FieldRest out₀ at word out next (drop i word)
 
 abbrev μ-loop : tie.MeasureT-loop
 μ-loop out₀ at word next₀ i₀ out next i = length word - i

@@ -1,11 +1,11 @@
--- `after`: the place takes what `place_taken` and `place_p` say; a closing kind marks the runs of the starts that were left too.
-use Rattle.placing.proofs.Steps.{wide, run-end, stack-room, runs-tried, after-open, after-closed}
+-- `after`: the place takes what `place_taken` and `place_p` say; a closing kind marks the runs of the starts that were skipped too.
+use Rattle.placing.proofs.Steps.{wide, run-ends, stack-room, runs-tried, after-open, after-closed}
 use borrow.Author.Needs.{needs}
 use Rattle.placing.proofs.after.Statement.{statement}
 use Rattle.placing.proofs.after.Tie as tie
 
 place-taken-requires : tie.Need-place-taken-requires
-place-taken-requires c κs = search (run-end, needs)
+place-taken-requires c κs = search (run-ends, needs)
 
 place-p-requires : tie.Need-place-p-requires
 place-p-requires c κs = search (stack-room, needs)

@@ -9,12 +9,12 @@ use Rattle.placing.proofs.mark_runs.Statement.{statement}
 use Rattle.placing.proofs.mark_runs.Tie as tie
 
 abbrev Inv-loop : tie.InvT-loop
-Inv-loop count left kind marked₀ i₀ marked i =
-    (i ≤ left) × (length marked ≡ 16)
-    × (markRuns marked count (drop i (take left (startsOf kind))) ≡ markRuns marked₀ count (take left (startsOf kind)))
+Inv-loop count skipped kind marked₀ i₀ marked i =
+    (i ≤ skipped) × (length marked ≡ 16)
+    × (markRuns marked count (drop i (take skipped (startsOf kind))) ≡ markRuns marked₀ count (take skipped (startsOf kind)))
 
 abbrev μ-loop : tie.MeasureT-loop
-μ-loop count left kind marked₀ i₀ marked i = left - i
+μ-loop count skipped kind marked₀ i₀ marked i = skipped - i
 
 loop-holds : tie.Need-loop-holds Inv-loop μ-loop
 loop-holds c = (search needs, search needs, refl)

@@ -1,4 +1,4 @@
--- `place`: how many starts were left says whether one fits, and the flags whether the stack is allowed; each answer is the rules' in that case.
+-- `place`: how many starts were skipped says whether one fits, and the flags whether the stack is allowed; each answer is the rules' in that case.
 use Rattle.placing.proofs.Steps.{wide, aligned, offset-room, place-registers, place-stack, place-nowhere}
 use borrow.Author.Needs.{needs}
 use Rattle.placing.proofs.place.Statement.{statement}

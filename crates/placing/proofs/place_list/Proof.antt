@@ -1,6 +1,6 @@
 -- `place_list`: a failed test, a faulty walk, or the records; one law for each.
 use Rattle.placing.proofs.Calls.{list-asks, room-asks}
-use Rattle.places.proofs.Calls.{list-refused, list-faulty, list-placed}
+use Rattle.stepping.proofs.Calls.{list-refused, list-faulty, list-placed}
 use borrow.Author.Needs.{needs}
 use Rattle.placing.proofs.place_list.Statement.{statement}
 use Rattle.placing.proofs.place_list.Tie as tie

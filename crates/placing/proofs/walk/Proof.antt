@@ -1,6 +1,6 @@
 -- `walk`: at each argument, what is left of the list answers the whole, and p leaves room for one more step.
 use Rattle.placing.proofs.Lists.{standing-begin, kind-there, next-asks, standing-on, standing-hit, standing-end}
-use Rattle.placing.specs.Asked.{Standing}
+use Rattle.placing.specs.RulesSteps.{RulesStanding}
 use lib.ListN.{length}
 use Prim.Native.Nat.{_-_}
 use lib.Dec.{lit<}
@@ -9,7 +9,7 @@ use Rattle.placing.proofs.walk.Statement.{statement}
 use Rattle.placing.proofs.walk.Tie as tie
 
 abbrev Inv-loop : tie.InvT-loop
-Inv-loop list sheet head s₀ i₀ s i = Standing sheet list s i
+Inv-loop list sheet head s₀ i₀ s i = RulesStanding sheet list s i
 
 abbrev μ-loop : tie.MeasureT-loop
 μ-loop list sheet head s₀ i₀ s i = length list - i

@@ -1,7 +1,7 @@
 -- `write_list`: at each argument, the records that are there and those of what is left give the whole.
 use Rattle.placing.proofs.Lists.{writing-begin, kind-there, next-asks, writing-on, writing-end}
-use Rattle.places.proofs.Walks.{write-room}
-use Rattle.placing.specs.Asked.{Writing}
+use Rattle.stepping.proofs.Walks.{write-room}
+use Rattle.placing.specs.RulesSteps.{RulesWriting}
 use lib.ListN.{length}
 use Prim.Native.Nat.{_-_}
 use lib.Dec.{lit<}
@@ -10,7 +10,7 @@ use Rattle.placing.proofs.write_list.Statement.{statement}
 use Rattle.placing.proofs.write_list.Tie as tie
 
 abbrev Inv-loop : tie.InvT-loop
-Inv-loop list out₀ sheet head s₀ done₀ out s done = Writing sheet list out₀ s done out
+Inv-loop list out₀ sheet head s₀ done₀ out s done = RulesWriting sheet list out₀ s done out
 
 abbrev μ-loop : tie.MeasureT-loop
 μ-loop list out₀ sheet head s₀ done₀ out s done = length list - done

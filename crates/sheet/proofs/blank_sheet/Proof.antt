@@ -1,4 +1,4 @@
--- `blank_sheet`: eight blank kinds behind a head of zeros.
+-- `blank_sheet`: eight blank kinds after a head of zeros.
 use borrow.Author.Needs.{needs}
 use Rattle.sheet.proofs.blank_sheet.Statement.{statement}
 use Rattle.sheet.proofs.blank_sheet.Tie as tie

@@ -1,13 +1,13 @@
 -- `kinds_no`: the kinds that are left give the number and the end of all, at each turn; a kind that is right ends within the sheet.
 use Rattle.sheet.proofs.Turns.{kinds-turn, kinds-hit, kinds-end}
-use Rattle.sheet.specs.Kinds.{KindsLeft}
+use Rattle.sheet.specs.Kinds.{KindsRest}
 use mathlib.Core.Path.{refl}
 use borrow.Author.Needs.{needs}
 use Rattle.sheet.proofs.kinds_no.Statement.{statement}
 use Rattle.sheet.proofs.kinds_no.Tie as tie
 
 abbrev Inv-loop : tie.InvT-loop
-Inv-loop version head s at₀ left₀ at left = KindsLeft version head s at left
+Inv-loop version head s at₀ left₀ at left = KindsRest version head s at left
 
 abbrev μ-loop : tie.MeasureT-loop
 μ-loop version head s at₀ left₀ at left = left

@@ -1,4 +1,4 @@
--- `starts_of`: after i turns the first i starts stand in their places, and zeros behind them.
+-- `starts_of`: after i turns the first i starts stand in their places, and zeros after them.
 use Rattle.sheet.proofs.Turns.{start-stored}
 use Rattle.convention.proofs.Filled.{filled, fill-done}
 use lib.ListN.{drop}

@@ -1,4 +1,4 @@
--- `blank_table`: eight blank kinds behind a head of zeros.
+-- `blank_table`: eight blank kinds after a head of zeros.
 use borrow.Author.Needs.{needs}
 use Rattle.table.proofs.blank_table.Statement.{statement}
 use Rattle.table.proofs.blank_table.Tie as tie

@@ -1,5 +1,5 @@
 -- `kinds_no`: the kinds that are left give the number of all, at each turn.
-use Rattle.table.proofs.Runs.{Left, kindsRun, kinds-run, run-turn, run-hit, run-end}
+use Rattle.table.proofs.Runs.{RunRest, kindsRun, kinds-run, run-turn, run-hit, run-done}
 use Rattle.convention.specs.Tables.{tableKindsNo}
 use Rattle.convention.specs.Layout.{kindsAt}
 use lib.ListN.{drop}
@@ -9,7 +9,7 @@ use Rattle.table.proofs.kinds_no.Statement.{statement}
 use Rattle.table.proofs.kinds_no.Tie as tie
 
 abbrev Inv-loop : tie.InvT-loop
-Inv-loop version head t at₀ left₀ at left = Left t (kindsRun version head t) (tableKindsNo version head (drop kindsAt t) (head .kinds)) at left
+Inv-loop version head t at₀ left₀ at left = RunRest t (kindsRun version head t) (tableKindsNo version head (drop kindsAt t) (head .kinds)) at left
 
 abbrev μ-loop : tie.MeasureT-loop
 μ-loop version head t at₀ left₀ at left = left
@@ -48,7 +48,7 @@ loop-again : tie.Need-loop-again Inv-loop μ-loop
 loop-again c = search (run-turn, kinds-run, needs)
 
 returns-2 : tie.Need-returns-2 Inv-loop μ-loop
-returns-2 c = search (run-end, kinds-run, needs)
+returns-2 c = search (run-done, kinds-run, needs)
 
 pub kinds-no-spec : {M : Type 1} → statement M
 kinds-no-spec =

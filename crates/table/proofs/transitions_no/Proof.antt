@@ -1,5 +1,5 @@
 -- `transitions_no`: the transitions that are left give the number of all, at each turn.
-use Rattle.table.proofs.Runs.{Left, transitionsRun, transitions-run, run-turn, run-hit, run-end}
+use Rattle.table.proofs.Runs.{RunRest, transitionsRun, transitions-run, run-turn, run-hit, run-done}
 use Rattle.convention.specs.Tables.{transitionsNo}
 use mathlib.Core.Path.{refl}
 use borrow.Author.Needs.{needs}
@@ -7,7 +7,7 @@ use Rattle.table.proofs.transitions_no.Statement.{statement}
 use Rattle.table.proofs.transitions_no.Tie as tie
 
 abbrev Inv-loop : tie.InvT-loop
-Inv-loop version head states t first count at₀ left₀ at left = Left t (transitionsRun version head states t) (transitionsNo version head states t first count) at left
+Inv-loop version head states t first count at₀ left₀ at left = RunRest t (transitionsRun version head states t) (transitionsNo version head states t first count) at left
 
 abbrev μ-loop : tie.MeasureT-loop
 μ-loop version head states t first count at₀ left₀ at left = left
@@ -37,7 +37,7 @@ loop-again : tie.Need-loop-again Inv-loop μ-loop
 loop-again c = search (run-turn, transitions-run, needs)
 
 returns-2 : tie.Need-returns-2 Inv-loop μ-loop
-returns-2 c = search (run-end, transitions-run, needs)
+returns-2 c = search (run-done, transitions-run, needs)
 
 pub transitions-no-spec : {M : Type 1} → statement M
 transitions-no-spec =

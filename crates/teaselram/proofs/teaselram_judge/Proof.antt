@@ -1,5 +1,5 @@
 -- `teaselram_judge`: the verdict, field by field, and its memory.
-use Rattle.teaselram.proofs.Says.{list-fits}
+use Rattle.teaselram.proofs.Says.{verdict-fits}
 use borrow.Author.Needs.{needs}
 use Rattle.teaselram.proofs.teaselram_judge.Statement.{statement}
 use Rattle.teaselram.proofs.teaselram_judge.Tie as tie
@@ -8,7 +8,7 @@ judge-requires : tie.Need-judge-requires
 judge-requires c κs = search needs
 
 judging-says-requires : tie.Need-judging-says-requires
-judging-says-requires c κs = list-fits _ _ _ _ (c .before .before .judge .ensures)
+judging-says-requires c κs = verdict-fits _ _ _ _ (c .before .before .judge .ensures)
 
 same-length : tie.Need-same-length
 same-length c = search needs

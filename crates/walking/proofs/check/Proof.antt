@@ -1,4 +1,4 @@
--- `check`: the fault of the transition's step, and the state behind it, by what each call answers.
+-- `check`: the fault of the transition's step, and the state after it, by what each call answers.
 use Rattle.walking.proofs.Steps.{check-hit, check-on}
 use borrow.Author.Needs.{needs}
 use Rattle.walking.proofs.check.Statement.{statement}

@@ -1,6 +1,6 @@
 -- `list_fault`: what is left of the list has the fault of the whole, from the state and the given registers alone.
 use Rattle.walking.proofs.Faulting.{faulting-begin, faulting-inside, faulting-kind, faulting-asks, faulting-gives, faulting-on, faulting-hit, faulting-end}
-use Rattle.walking.specs.Asked.{Faulting}
+use Rattle.walking.specs.TableSteps.{Faulting}
 use lib.ListN.{length}
 use mathlib.Core.Path.{_≡_}
 use Prim.Native.Nat.{_-_}

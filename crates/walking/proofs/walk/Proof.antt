@@ -1,6 +1,6 @@
 -- `walk`: what is left of the list answers the whole; the walk stands in a state of the table, with p within reach.
 use Rattle.walking.proofs.Lists.{standing-begin, next-inside, kind-there, next-check, checked-on, checked-hit, standing-end}
-use Rattle.walking.specs.Asked.{Standing}
+use Rattle.walking.specs.TableSteps.{TableStanding}
 use lib.ListN.{length}
 use Prim.Native.Nat.{_-_}
 use lib.Dec.{lit<}
@@ -9,7 +9,7 @@ use Rattle.walking.proofs.walk.Statement.{statement}
 use Rattle.walking.proofs.walk.Tie as tie
 
 abbrev Inv-loop : tie.InvT-loop
-Inv-loop t list table head s₀ i₀ s i = Standing table t list s i
+Inv-loop t list table head s₀ i₀ s i = TableStanding table t list s i
 
 abbrev μ-loop : tie.MeasureT-loop
 μ-loop t list table head s₀ i₀ s i = length list - i

@@ -1,7 +1,7 @@
 -- `write_list`: the records of the arguments so far stand in front; what is left of the list gives those that are left.
 use Rattle.walking.proofs.Lists.{writing-begin, writing-asks, writing-on, writing-end}
-use Rattle.places.proofs.Walks.{write-room}
-use Rattle.walking.specs.Asked.{Writing}
+use Rattle.stepping.proofs.Walks.{write-room}
+use Rattle.walking.specs.TableSteps.{TableWriting}
 use lib.ListN.{length}
 use Prim.Native.Nat.{_-_}
 use borrow.Author.Needs.{needs}
@@ -9,7 +9,7 @@ use Rattle.walking.proofs.write_list.Statement.{statement}
 use Rattle.walking.proofs.write_list.Tie as tie
 
 abbrev Inv-loop : tie.InvT-loop
-Inv-loop table t list out₀ s₀ i₀ out s i = Writing table t list out₀ s i out
+Inv-loop table t list out₀ s₀ i₀ out s i = TableWriting table t list out₀ s i out
 
 abbrev μ-loop : tie.MeasureT-loop
 μ-loop table t list out₀ s₀ i₀ out s i = length list - i

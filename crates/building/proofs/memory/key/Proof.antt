@@ -1,4 +1,4 @@
--- `key`: the number that `set_number` answers, with the remainder behind it.
+-- `key`: the number that `set_number` answers, with the remainder after it.
 use Rattle.building.proofs.Keyed.{key-is}
 use borrow.Author.Needs.{needs}
 use Rattle.building.proofs.memory.key.Statement.{statement}

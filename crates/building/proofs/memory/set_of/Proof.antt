@@ -1,4 +1,4 @@
--- `set_of`: at each turn the flags before register i are told, and what is left stands for the others.
+-- `set_of`: at each turn the flags before register i are told, and the rest of the number stands for the others.
 use Prim.Native.Nat.{_-_}
 use Rattle.building.specs.Keys.{SetUpTo}
 use Rattle.building.proofs.Keyed.{set-begin, set-on, set-end}
@@ -7,10 +7,10 @@ use Rattle.building.proofs.memory.set_of.Statement.{statement}
 use Rattle.building.proofs.memory.set_of.Tie as tie
 
 abbrev Inv-loop : tie.InvT-loop
-Inv-loop number flags₀ left₀ i₀ flags left i = SetUpTo number i left flags
+Inv-loop number flags₀ rest₀ i₀ flags rest i = SetUpTo number i rest flags
 
 abbrev μ-loop : tie.MeasureT-loop
-μ-loop number flags₀ left₀ i₀ flags left i = 16 - i
+μ-loop number flags₀ rest₀ i₀ flags rest i = 16 - i
 
 loop-holds : tie.Need-loop-holds Inv-loop μ-loop
 loop-holds c = search (set-begin, needs)

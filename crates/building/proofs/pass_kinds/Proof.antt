@@ -1,0 +1,65 @@
+-- `pass_kinds`: before kind k the states kept are those met by the kinds below k.
+use Prim.Native.Nat.{_-_}
+use Rattle.building.specs.Holding.{PassingKinds}
+use Rattle.building.proofs.Leading.{lead-asks}
+use Rattle.building.proofs.Meeting.{passing-begin, passing-on, passing-end}
+use borrow.Author.Needs.{needs}
+use Rattle.building.proofs.pass_kinds.Statement.{statement}
+use Rattle.building.proofs.pass_kinds.Tie as tie
+
+abbrev Inv-loop : tie.InvT-loop
+Inv-loop states₀ i sheet from head kinds more₀ k₀ states more k = PassingKinds sheet from i k states more
+
+abbrev μ-loop : tie.MeasureT-loop
+μ-loop states₀ i sheet from head kinds more₀ k₀ states more k = kinds - k
+
+state-at-requires : tie.Need-state-at-requires Inv-loop μ-loop
+state-at-requires c κs = search needs
+
+loop-holds : tie.Need-loop-holds Inv-loop μ-loop
+loop-holds c = search (passing-begin, needs)
+
+cast-kind : tie.Need-cast-kind Inv-loop μ-loop
+cast-kind c = search needs
+
+mul-kind : tie.Need-mul-kind Inv-loop μ-loop
+mul-kind c = search needs
+
+element-copy-out-kind : tie.Need-element-copy-out-kind Inv-loop μ-loop
+element-copy-out-kind c = search needs
+
+pass-requires : tie.Need-pass-requires Inv-loop μ-loop
+pass-requires c κs = search (lead-asks, needs)
+
+add-k : tie.Need-add-k Inv-loop μ-loop
+add-k c = search needs
+
+loop-less : tie.Need-loop-less Inv-loop μ-loop
+loop-less c = search needs
+
+loop-again : tie.Need-loop-again Inv-loop μ-loop
+loop-again c = search (passing-on, needs)
+
+same-length : tie.Need-same-length Inv-loop μ-loop
+same-length c = search needs
+
+returns : tie.Need-returns Inv-loop μ-loop
+returns c = search (passing-end, needs)
+
+pub pass-kinds-spec : {M : Type 1} → statement M
+pass-kinds-spec =
+    tie.close
+    (tie.spec
+    Inv-loop
+    μ-loop
+    state-at-requires
+    loop-holds
+    cast-kind
+    mul-kind
+    element-copy-out-kind
+    pass-requires
+    add-k
+    loop-less
+    loop-again
+    same-length
+    returns)

@@ -1,0 +1,63 @@
+-- What both placers promise of placing a list, over either way of placing: its tests, the walk that looks for a fault, and the one that writes.
+use Prim.Native.Nat.{ℕ, _+_, _*_, _≤_}
+use mathlib.Core.Path.{_≡_}
+use mathlib.Core.Bool.{cond}
+use mathlib.Core.List.{List, _++_}
+use lib.Dec.{leb, eqb}
+use lib.ListN.{length, take, drop}
+use Rattle.convention.specs.declared.Offset.{Offset}
+use Rattle.convention.specs.declared.PlacingAnswer.{PlacingAnswer}
+use Rattle.convention.specs.declared.PlacingAnswer.the-variants.{Unknown}
+use Rattle.convention.specs.Numbers.{orElse, unless}
+use Rattle.convention.specs.Lists.{Steps, faultFrom, stopFrom, stateFrom, placesFrom, recordsOf, recordLength, records, unknownAt, listNo, placing, placingMemory}
+
+-- The whole walk: its fault and where it stops, and p where nothing is faulty.
+pub record WalkIs (M : Steps) (ks : List ℕ) (fault stop : ℕ) (p : Offset) : Type 0 where
+  pub first : fault ≡ faultFrom M (M .begin) ks
+  pub position : stop ≡ stopFrom M (M .begin) ks
+  pub final : fault ≡ 0 → p ≡ M .p (stateFrom M (M .begin) ks)
+
+-- Half way through, before argument i and in state s: what is left of the list gives the fault, the position and the state of all.
+pub record WalkRest (M : Steps) (ks : List ℕ) (s : M .State) (i : ℕ) : Type 0 where
+  pub within : i ≤ length ks
+  pub fault : faultFrom M s (drop i ks) ≡ faultFrom M (M .begin) ks
+  pub stop : i + stopFrom M s (drop i ks) ≡ stopFrom M (M .begin) ks
+  pub state : stateFrom M s (drop i ks) ≡ stateFrom M (M .begin) ks
+
+-- Half way through writing: the records of the first i arguments stand in front, the bytes after them are untouched, and what is left of the
+-- list gives the records that are left.
+pub record WriteRest (M : Steps) (ks : List ℕ) (before : List ℕ) (s : M .State) (i : ℕ) (out : List ℕ) : Type 0 where
+  pub within : i ≤ length ks
+  pub written : out ≡ take (recordLength * i) (records M ks) ++ drop (recordLength * i) before
+  pub rest : recordsOf (placesFrom M s (drop i ks)) ≡ drop (recordLength * i) (records M ks)
+  pub long : length out ≡ length before
+
+-- The records of a list in front of what stood after them.
+abbrev pub recordsBefore : (M : Steps) → List ℕ → List ℕ → List ℕ
+recordsBefore M ks before = records M ks ++ drop (length (records M ks)) before
+
+-- A list of known kinds, of no more arguments than the limit.
+pub record Listed (limit m : ℕ) (ks : List ℕ) : Type 0 where
+  pub known : unknownAt m ks ≡ length ks
+  pub short : length ks ≤ limit
+
+-- The number of the first test that a list fails, 'Then, placing: 8, 12, 9'; 0 where it fails none.
+abbrev pub testNo : ℕ → ℕ → List ℕ → ℕ → ℕ
+testNo limit m ks room = orElse (listNo limit (length ks) room) (unless (leb (length ks) (unknownAt m ks)) 9)
+
+-- What a list was found to be by its tests: their number, with 9 the first unknown kind's position; where it is 0 the list can be placed,
+-- and its records have room.
+pub record ListTested (limit m : ℕ) (ks : List ℕ) (room number at : ℕ) : Type 0 where
+  pub is : number ≡ testNo limit m ks room
+  pub position : number ≡ 9 → at ≡ unknownAt m ks
+  pub listed : number ≡ 0 → Listed limit m ks
+  pub roomy : number ≡ 0 → recordLength * length ks ≤ room
+
+-- The answer of a list that failed a test: 9 with the position, or the number alone.
+abbrev pub refusalAnswer : ℕ → ℕ → PlacingAnswer
+refusalAnswer number at = cond (eqb number 9) (Unknown at) (PlacingAnswer.Refused number)
+
+-- The answer of placing by a convention of m kinds that was read, and the lent memory afterwards.
+pub record PlacingIs (limit m : ℕ) (M : Steps) (ks before : List ℕ) (answer : PlacingAnswer) (after : List ℕ) : Type 0 where
+  pub answers : answer ≡ placing limit 0 m M ks (length before)
+  pub memory : after ≡ placingMemory answer M ks before
