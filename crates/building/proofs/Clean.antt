@@ -27,8 +27,8 @@ place-most (Registers first count) = omega arith
 place-most (Stack offset count) = omega arith
 place-most Nowhere = omega arith
 
-stack-most : (w : ℕ) (kind : SheetKind) (s : ByRules) → mayUseStack kind ≡ true → placeFault (rulesPlace w kind s) ≤ 0
-stack-most w kind s u =
+stack-placed : (w : ℕ) (kind : SheetKind) (s : ByRules) → mayUseStack kind ≡ true → placeFault (rulesPlace w kind s) ≤ 0
+stack-placed w kind s u =
     place-cases w kind (s .unavailable) (λ at. placeFault (at (s .p .0)) ≤ 0) (λ _. omega arith) (λ _. omega arith) (λ f. absurd (true≢false (sym u ∙ f)))
 
 module _ (limit : ℕ) (sheet : Sheet) (R : SheetRead sheet) (whole : length (builtStates limit sheet) ≤ limit) where
@@ -43,5 +43,5 @@ module _ (limit : ℕ) (sheet : Sheet) (R : SheetRead sheet) (whole : length (bu
   unfolding CleanTable FaultyList
   clean-if-stack stack ks faulty =
       let below : KindsBelow (sheet .head .kinds) ks = rw (built-head sheet (builtStates limit sheet)) at (faulty .0) in
-      let none = faults-keep (byRules sheet) (λ f. f ≤ 0) (sheet .head .kinds) (omega arith) (λ s k b. stack-most _ _ s (stack k b)) (byRules sheet .begin) ks below in
+      let none = faults-keep (byRules sheet) (λ f. f ≤ 0) (sheet .head .kinds) (omega arith) (λ s k b. stack-placed _ _ s (stack k b)) (byRules sheet .begin) ks below in
       omega (arith, faulty .1, agree-fault limit sheet R whole ks below, none)

@@ -1,5 +1,5 @@
 -- What the laws of built tables need to know of a place that the rules give: it is a free run, of as many registers as the kind needs and within the sheet's; or
--- the least offset, with the kind's size; or nothing. And of the flags after a step: what was unavailable stays so.
+-- the least offset, with the kind's stack bytes; or nothing. And of the flags after a step: what was unavailable stays so.
 use Prim.Native.Nat.{ℕ, _+_, _≤_, _<_}
 use mathlib.Core.Path.{_≡_, refl, sym, _∙_}
 use mathlib.Core.Logic.{inl, inr}

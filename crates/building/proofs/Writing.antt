@@ -16,7 +16,7 @@ use Rattle.convention.specs.declared.Transition.{Transition}
 use Rattle.convention.specs.declared.Allocation.{Allocation}
 use Rattle.convention.specs.Bytes.{written, blocks}
 use Rattle.convention.specs.Numbers.{stateLimit}
-use Rattle.convention.specs.Layout.{lengthBytes, kindsAt, sizeAt, alignmentAt, shapeLength, tableKindAt, stateLength, statesAt, rowsAt, formAt, aAt, bAt, nextAt}
+use Rattle.convention.specs.Layout.{lengthAt, lengthBytes, versionAt, registersAt, widthAt, modulusAt, kindsCountAt, kindsAt, sizeAt, alignmentAt, shapeLength, tableKindAt, stateLength, statesAt, rowsAt, formAt, aAt, bAt, nextAt}
 use Rattle.convention.specs.Layout.{transitionLength, rowLength, rowAt, transitionAt, tableLength}
 use Rattle.convention.specs.Fields.{shapeBytes, stateBytes}
 use Rattle.convention.specs.Sheets.{sheetKind}
@@ -41,7 +41,8 @@ unfolding shapeLength shapeBytes
 stored-shape v d at shape h = rw (add-zero, add-one) (written-sets d at (shape .size ∷ shape .alignment ∷ []) h)
 
 pub stored-opening : (d : List ℕ) (v : ℕ) (h : Head) (follow : ℕ) → kindsAt ≤ length d
-    → set (set (set (set (set (set (set d 0 (follow / 256 % 256)) 1 (follow % 256)) 2 v) 3 (h .registers)) 4 (h .width)) 5 (h .modulus)) 6 (h .kinds)
+    → set (set (set (set (set (set (set d lengthAt (follow / 256 % 256)) (lengthAt + 1) (follow % 256)) versionAt v) registersAt (h .registers)) widthAt (h .width)) modulusAt (h .modulus))
+    kindsCountAt (h .kinds)
     ≡ written d 0 (openingBytes v h follow)
 stored-opening d v h follow room = written-sets d 0 (openingBytes v h follow) room
 

@@ -20,6 +20,7 @@ use fields::layout::ALIGNMENT_AT;
 use fields::layout::B_AT;
 use fields::layout::FORM_AT;
 use fields::layout::KINDS_COUNT_AT;
+use fields::layout::LENGTH_AT;
 use fields::layout::LENGTH_BYTES;
 use fields::layout::MODULUS_AT;
 use fields::layout::NEXT_AT;
@@ -288,8 +289,8 @@ fn write_opening(version: u8, head: Head, follow: usize, out: &mut [u8])
     requires { ⌜ kindsAt ≤ length (now out) ⌝ }
     ensures { λ _. ⌜ now (out .exit) ≡ written (now (out .entry)) 0 (openingBytes version head follow) ⌝ }
 {
-    out[0] = (follow / 0x100 % 0x100) as u8;
-    out[1] = (follow % 0x100) as u8;
+    out[LENGTH_AT] = (follow / 0x100 % 0x100) as u8;
+    out[LENGTH_AT + 1] = (follow % 0x100) as u8;
     out[VERSION_AT] = version;
     out[REGISTERS_AT] = head.registers;
     out[WIDTH_AT] = head.width;

@@ -13,9 +13,9 @@ use Rattle.convention.specs.Explored.{number, meet, metFrom, through, met}
 use Rattle.convention.specs.Built.{sameFlags, builtVersion, builtCell, builtRow, builtBody, tableOfStates, buildNo, build}
 use Rattle.cases.specs.Readings.{alongKind, kindByKind, inRounds, kindsThenStates}
 use Rattle.cases.specs.Cases.{simple}
-use Rattle.cases.specs.Examples.{BuildCase, buildCases, tableLength, full, lastStates, numbering, statesFrom}
+use Rattle.cases.specs.Examples.{BuildCase, buildCases, lengthOfTable, full, lastStates, numbering, statesFrom}
 
-pub builds-hold : map (λ (c : BuildCase). build stateLimit (c .sheet) tableLength) buildCases ≡ map (λ (c : BuildCase). c .gives) buildCases
+pub builds-hold : map (λ (c : BuildCase). build stateLimit (c .sheet) lengthOfTable) buildCases ≡ map (λ (c : BuildCase). c .gives) buildCases
 unfolding versionOf headOf headNo openingNo shapeLength stateLength shapeNo shapeOf shapeBytes stateField stateBytes rightCount stackBytes startsNo sheetKindNo sheetKindOf sheetKindsNo sheetKindsOf sheetKindsLength sheetNo sheetOf leastOffset freeRun markRuns skippedBefore rulesPlace rulesAfter blocks number meet metFrom through met sameFlags builtVersion builtCell builtRow builtBody tableOfStates buildNo build
 builds-hold = refl
 

@@ -31,7 +31,7 @@ use Rattle.building.proofs.Clean.{clean-if-stack}
 use Rattle.judging.proofs.Unique.{judge-passes}
 use Rattle.judging.proofs.Trying.{trying-judges}
 use Rattle.cases.specs.Cases.{simple, stacklessDouble}
-use Rattle.cases.specs.Examples.{tableLength, cleanLine, faultLine, refusedOne}
+use Rattle.cases.specs.Examples.{lengthOfTable, cleanLine, faultLine, refusedOne}
 
 -- The line of a sheet that was built, and of a verdict that its table may have.
 module _ (s : List ℕ) (few : length s ≤ inputLimit) (n len : ℕ) (built : build stateLimit s (length (builtTable stateLimit (sheetOf s))) ≡ Built n len) where
@@ -61,7 +61,7 @@ abbrev room : List ℕ
 room = replicate 24 0
 
 record Builds (s : List ℕ) : Type 0 where
-  built : build stateLimit s (length (builtTable stateLimit (sheetOf s))) ≡ Built 12 tableLength
+  built : build stateLimit s (length (builtTable stateLimit (sheetOf s))) ≡ Built 12 lengthOfTable
   roomy : judgeRoom (builtTable stateLimit (sheetOf s)) ≤ length room
 
 both-built : Builds simple × Builds stacklessDouble
@@ -78,7 +78,7 @@ simple-stack (suc (suc (suc k))) h = absurd (omega arith)
 
 simple-clean : CleanTable (builtTable stateLimit (sheetOf simple))
 simple-clean =
-    let (read, whole) = built-sheet stateLimit simple _ 12 tableLength (both-built .0 .built) in
+    let (read, whole) = built-sheet stateLimit simple _ 12 lengthOfTable (both-built .0 .built) in
     clean-if-stack stateLimit (sheetOf simple) (sheet-read simple read) whole simple-stack
 
 pub simple-prints : Prints simple cleanLine
@@ -86,7 +86,7 @@ unfolding Judges digitsIn decimal verdictFields line versionOf headOf sheetOf
 simple-prints =
     let built = both-built .0 .built in
     let roomy = both-built .0 .roomy in
-    prints simple (omega arith) 12 tableLength built Clean room room roomy (judged simple (omega arith) 12 tableLength built room roomy, simple-clean, refl)
+    prints simple (omega arith) 12 lengthOfTable built Clean room room roomy (judged simple (omega arith) 12 lengthOfTable built room roomy, simple-clean, refl)
 
 -- The other table's verdict is the first that is found by trying.
 pub stackless-prints : Prints stacklessDouble faultLine
@@ -94,8 +94,8 @@ unfolding tableKindsOf tableOf faultFrom tableFault tableAfter eachKind listsOf 
 stackless-prints =
     let built = both-built .1 .built in
     let roomy = both-built .1 .roomy in
-    prints stacklessDouble (omega arith) 12 tableLength built _ room _ roomy
-    (trying-judges stateLimit (builtTable stateLimit (sheetOf stacklessDouble)) room (judged stacklessDouble (omega arith) 12 tableLength built room roomy))
+    prints stacklessDouble (omega arith) 12 lengthOfTable built _ room _ roomy
+    (trying-judges stateLimit (builtTable stateLimit (sheetOf stacklessDouble)) room (judged stacklessDouble (omega arith) 12 lengthOfTable built room roomy))
 
 -- `00` is refused, and there is nothing to judge.
 pub refused-prints : Prints (0x00 ∷ []) refusedOne

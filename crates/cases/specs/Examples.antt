@@ -14,8 +14,8 @@ use Rattle.cases.specs.Readings.{statesThenKinds}
 use Rattle.cases.specs.Cases.{simple, stacklessDouble}
 
 -- 'the table is 158 bytes': the room that building is given.
-abbrev pub tableLength : ℕ
-tableLength = 158
+abbrev pub lengthOfTable : ℕ
+lengthOfTable = 158
 
 -- What building gives: N and the table's length, or the number.
 pub record BuildCase : Type 0 where
@@ -28,8 +28,8 @@ _builds_ sheet gives = record { sheet = sheet; gives = gives }
 
 abbrev pub buildCases : List BuildCase
 buildCases =
-    (simple builds Built 12 tableLength)
-    ∷ (stacklessDouble builds Built 12 tableLength)
+    (simple builds Built 12 lengthOfTable)
+    ∷ (stacklessDouble builds Built 12 lengthOfTable)
     ∷ ((0x00 ∷ []) builds BuildingAnswer.Refused 1)
     ∷ ((0x00 ∷ 0x00 ∷ []) builds BuildingAnswer.Refused 3)
     ∷ ((0x00 ∷ 0x01 ∷ 0x02 ∷ []) builds BuildingAnswer.Refused 2)

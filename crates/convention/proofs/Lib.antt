@@ -18,7 +18,7 @@ pub mod Scanning
 pub mod Exploring
 pub mod Reaching
 pub mod Numbered
-pub mod Parts
+pub mod Slices
 pub mod Runs
 pub mod Rules
 pub mod Walked

@@ -16,7 +16,7 @@ use Rattle.convention.specs.Numbers.{stateLimit}
 use Rattle.convention.specs.Fields.{shapeOf, shapeBytes, stateField, stateBytes}
 use Rattle.convention.specs.Tables.{transitionOf, transitionBytes}
 
--- A shape's fields lie within it, and its length can be said in a byte; a state's number takes some.
+-- A shape's fields lie within it, and its length can be said in a byte; a state's number takes at least one.
 pub shape-some : (v : ℕ) → alignmentAt < shapeLength v
 unfolding shapeLength
 shape-some v = omega arith

@@ -12,7 +12,7 @@ use Rattle.convention.specs.Shapes.{stackBytes}
 use Rattle.convention.specs.Sheets.{mayUseStack}
 use Rattle.convention.specs.Rules.{skippedOf, startsOf, needed, fits, startTaken, stackOffset, rulesPlace}
 
--- What holds of registers from a start that fits, of the stack where it is allowed, and of nowhere holds of the place by the rules, as it hangs on p.
+-- What holds of registers from a start that fits, of the stack where it is allowed, and of nowhere holds of the place by the rules, which is a function of p here.
 pub place-cases : (w : ℕ) (k : SheetKind) (taken : List Bool) (P : (ℕ → Placement) → Type 0)
     → (skippedOf w k taken < length (startsOf k) → P (λ p. Registers (record { 0 = startTaken w k taken }) (needed w k)))
     → (mayUseStack k ≡ true → P (λ p. Stack (record { 0 = stackOffset k p }) (stackBytes (k .shape))))

@@ -88,7 +88,7 @@ module _ (v : ℕ) (h : Head) (s : List ℕ) (e : sheetKindNo v h s ≡ 0) where
             (starts-fit _ _ s (startsAt v) _ (kind-tests .starts) i l .1);
       }
 
--- The kinds: how many, each with its values, all within the bytes, and at most twenty bytes each.
+-- The kinds: how many, each with its values, all within the bytes, and none longer than the longest.
 pub kinds-count : (v : ℕ) (s : List ℕ) (left : ℕ) → length (sheetKindsOf v s left) ≡ left
 unfolding sheetKindsOf
 kinds-count v = after-count (sheetKindLength v) (sheetKindOf v) (sheetKindsOf v) (λ s. refl) (λ s left. refl)

@@ -34,6 +34,7 @@ pub record StackStep (h : Head) (x : Transition) : Type 0 where
 
 pub record NoStep (h : Head) (x : Transition) : Type 0 where
   pub form : eqb (x .form) 1 ≡ false
+  pub other : eqb (x .form) 2 ≡ false
   pub place : (p : ℕ) → tablePlace h x p ≡ Nowhere
   pub fault : (shape : Shape) (given : List Bool) → tableFault h shape x given ≡ 1
 
@@ -44,7 +45,7 @@ step-cases h x = go (eqb (x .form) 1) (eqb (x .form) 2) refl refl
     go : (one two : Bool) → eqb (x .form) 1 ≡ one → eqb (x .form) 2 ≡ two → RegistersStep h x ⊎ (StackStep h x ⊎ NoStep h x)
     go true two e f = inl (record { form = eqb-true _ 1 e; place = λ p. rw e; fault = λ shape given. rw e })
     go false true e f = inr (inl (record { form = eqb-true _ 2 f; place = λ p. rw (e, f); fault = λ shape given. rw (e, f) }))
-    go false false e f = inr (inr (record { form = e; place = λ p. rw (e, f); fault = λ shape given. rw (e, f) }))
+    go false false e f = inr (inr (record { form = e; other = f; place = λ p. rw (e, f); fault = λ shape given. rw (e, f) }))
 
 -- What there is where a step that gives registers has no fault, and where one that gives stack bytes has none.
 module _ (h : Head) (shape : Shape) (x : Transition) (given : List Bool) (e : tableFault h shape x given ≡ 0) where

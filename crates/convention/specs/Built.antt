@@ -8,7 +8,6 @@ use Rattle.convention.specs.declared.Placement.{Placement}
 use Rattle.convention.specs.declared.Transition.{Transition}
 use Rattle.convention.specs.declared.PlacementParts.{PlacementParts}
 use Rattle.convention.specs.declared.Sheet.{Sheet}
-use Rattle.convention.specs.declared.Transition.{Transition}
 use Rattle.convention.specs.declared.Allocation.{Allocation}
 use Rattle.convention.specs.declared.ByRules.{ByRules}
 use Rattle.convention.specs.declared.BuildingAnswer.{BuildingAnswer}
@@ -95,10 +94,11 @@ builtBody sheet l =
     builtVersion sheet ∷ sheet .head .registers ∷ sheet .head .width ∷ sheet .head .modulus ∷ sheet .head .kinds
     ∷ (blocks (builtKind sheet) (sheet .head .kinds) ++ (stateBytes (builtVersion sheet) (length l) ++ blocks (builtRow sheet l) (length l)))
 
--- The table whose states are the entries of l.
+-- 'two bytes, big-endian, the number of bytes that follow', and those.
 abbrev pub afterLength : List ℕ → List ℕ
 afterLength body = twoBytes (length body) ++ body
 
+-- The table whose states are the entries of l.
 unfoldable pub tableOfStates : (sheet : Sheet) → List (Entry (allocations sheet)) → List ℕ
 tableOfStates sheet l = afterLength (builtBody sheet l)
 

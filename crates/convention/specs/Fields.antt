@@ -7,7 +7,7 @@ use lib.ListN.{length, getD}
 use Rattle.convention.specs.declared.Head.{Head}
 use Rattle.convention.specs.declared.Shape.{Shape}
 use Rattle.convention.specs.Numbers.{orElse, unless}
-use Rattle.convention.specs.Layout.{lengthBytes, versionAt, registersAt, widthAt, modulusAt, kindsCountAt, sizeAt, alignmentAt}
+use Rattle.convention.specs.Layout.{lengthAt, lengthBytes, versionAt, registersAt, widthAt, modulusAt, kindsCountAt, sizeAt, alignmentAt}
 
 -- 'a missing byte gives 3, and a wrong value gives its number as soon as its field is read': `long` bytes from byte `at` on, whose value is right or not.
 abbrev pub partNo : List ℕ → ℕ → ℕ → Bool → ℕ → ℕ
@@ -19,7 +19,7 @@ fieldNo s at right wrong = partNo s at 1 right wrong
 
 -- 'the number of bytes that follow', as the length field says it.
 abbrev pub lengthField : List ℕ → ℕ
-lengthField s = 256 * getD s 0 0 + getD s 1 0
+lengthField s = 256 * getD s lengthAt 0 + getD s (lengthAt + 1) 0
 
 -- Number 1: 'fewer than 2 bytes, or the length field is not the count of bytes after it'.
 abbrev pub lengthNo : List ℕ → ℕ

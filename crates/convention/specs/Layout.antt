@@ -1,9 +1,13 @@
--- Document 01, 'Bytes of a sheet and of a table': where every field of both files stands, and how long every part is. All of it is a function of a file's version v and
--- its head h, and is said in this file alone. A position within a kind, or within a transition, is counted from its first byte on.
+-- Document 01, 'Bytes of a sheet and of a table': where every field of both files stands, and how long every part is. All of it is a function of a file's version v and its head h, and is
+-- said in this file alone, but for where a sheet's kind stands, which the starts of the kinds before it decide (`sheetKindAt`, Sheets). A position within a kind, or within a transition, is
+-- counted from its first byte on.
 use Prim.Native.Nat.{ℕ, _+_, _*_, _<_}
 use Rattle.convention.specs.declared.Head.{Head}
 
 -- 'two bytes, big-endian, the number of bytes that follow'.
+abbrev pub lengthAt : ℕ
+lengthAt = 0
+
 abbrev pub lengthBytes : ℕ
 lengthBytes = 2
 
@@ -55,7 +59,7 @@ sheetKindMost v = startsAt v + 16
 abbrev pub longestSheet : ℕ → ℕ
 longestSheet v = kindsAt + sheetKindMost v * 8
 
--- In a table nothing follows: where kind k stands.
+-- A table says nothing else of a kind. Where kind k stands.
 abbrev pub tableKindAt : ℕ → ℕ → ℕ
 tableKindAt v k = kindsAt + shapeLength v * k
 
@@ -100,7 +104,7 @@ transitionAt v h state k = rowAt v h state + transitionLength v * k
 abbrev pub tableLength : ℕ → Head → ℕ → ℕ
 tableLength v h states = rowAt v h states
 
--- The most that is: eight kinds, and as many states as a table may have.
+-- How long the longest table is: eight kinds, and as many states as a table may have.
 abbrev pub longestTable : ℕ → ℕ → ℕ
 longestTable v limit = kindsAt + shapeLength v * 8 + stateLength v + transitionLength v * 8 * limit
 

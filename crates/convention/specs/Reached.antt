@@ -1,4 +1,4 @@
--- Document 01, 'Only states that some list of kinds reaches': what a list leads to from the start. Of a table that is its states, by their transitions of form 1 and 2 from state 0 on.
+-- Document 01, 'Only states that some list of kinds reaches': what a list leads to from the start. In a table these are the states to which transitions of form 1 and 2 lead from state 0 on.
 use Prim.Native.Nat.{ℕ}
 use mathlib.Core.List.{List}
 use lib.Dec.{ltb}

@@ -68,7 +68,7 @@ pub struct Table {
     pub states: u16,
 }
 
-// One transition of a table, as its four bytes say it.
+// One transition of a table, as its bytes say it.
 pub struct Transition {
     pub form: u8,
     pub a: u8,

@@ -112,10 +112,10 @@ module _ (most rest : ℕ) (some : 3 ≤ most) (later : Later most rest) where
       let there = leb (versionAt + 1) (length file) in
       let right = isVersion (versionOf file) in
       record {
-        one = Iff·trans (one-when long counted there right) (⊎-map (leb-false 2 _) (eqb-false _ _), ⊎-map (lt-leb 2 _) (ne-eqb _ _));
+        one = Iff·trans (one-when long counted there right) (⊎-map (leb-false lengthBytes _) (eqb-false _ _), ⊎-map (lt-leb lengthBytes _) (ne-eqb _ _));
         two = Iff·trans (two-when long counted there right) (
-          λ e. (leb-true 2 _ (e .0), eqb-true _ _ (e .1), leb-true (versionAt + 1) _ (e .2), eqb-false _ 1 (e .3)),
-          λ e. (le-leb 2 _ (e .0), eq-eqb _ _ (e .1), le-leb (versionAt + 1) _ (e .2), ne-eqb _ 1 (e .3)),
+          λ e. (leb-true lengthBytes _ (e .0), eqb-true _ _ (e .1), leb-true (versionAt + 1) _ (e .2), eqb-false _ 1 (e .3)),
+          λ e. (le-leb lengthBytes _ (e .0), eq-eqb _ _ (e .1), le-leb (versionAt + 1) _ (e .2), ne-eqb _ 1 (e .3)),
         );
         others = number-most long counted there right;
       }

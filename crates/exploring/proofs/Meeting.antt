@@ -28,8 +28,8 @@ module _ (nodes : ℕ) (before cleared : List ℕ) (room : EntryRoom nodes befor
     fits = omega arith;
   }
 
-  pub start-is : (after : List ℕ) → after ≡ appended nodes cleared 0 0 0 → StartIs nodes before after
-  start-is after e = rw e (record {
+  pub started-is : (after : List ℕ) → after ≡ appended nodes cleared 0 0 0 → StartIs nodes before after
+  started-is after e = rw e (record {
     start = λ N.
         stored-snoc N nodes [] 0 cleared (stored-none N nodes before cleared room clears) (firstEntry (numbered N)) (room .some) (λ i h. absurd (omega arith)) (omega arith);
     others = others-stay nodes cleared 0 0 0 (room .some) (room .some) ∙ clears .others;

@@ -113,7 +113,7 @@ module _ (N : Numbered) (nodes : ℕ) (l : List (Entry (numbered N))) (count : �
       kind = words-more (pairWord nodes) (λ w y. w % pairKinds ≡ y .kind) (s .kind) (rw own-pair (omega arith)) same-pair;
     }
 
--- The caller's bytes are left where an entry is appended.
+-- The caller's bytes are untouched where an entry is appended.
 pub others-stay : (nodes : ℕ) (work : List ℕ) (count node pair : ℕ) → count < nodes → node < nodes
     → drop (callerAt nodes) (appended nodes work count node pair) ≡ drop (callerAt nodes) work
 others-stay nodes work count node pair h k =

@@ -48,7 +48,7 @@ pub record EntryRoom (nodes : ℕ) (work : List ℕ) : Type 0 where
   pub bytes : callerAt nodes ≤ length work
   pub words : pairKinds * nodes ≤ wordLimit
 
--- The marks of the nodes below `upTo` are 0, and the caller's bytes are left.
+-- The marks of the nodes below `upTo` are 0, and the caller's bytes are untouched.
 pub record Cleared (nodes upTo : ℕ) (before after : List ℕ) : Type 0 where
   pub marks : (node : ℕ) → node < upTo → wordAt after node ≡ 0
   pub others : drop (callerAt nodes) after ≡ drop (callerAt nodes) before

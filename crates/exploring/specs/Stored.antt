@@ -23,7 +23,7 @@ pub record Stored (N : Numbered) (nodes : ℕ) (l : List (Entry (numbered N))) (
   pub parent : (i : ℕ) → i < length l → wordAt work (pairWord nodes i) / pairKinds ≡ entry (numbered N) l i .parent
   pub kind : (i : ℕ) → i < length l → wordAt work (pairWord nodes i) % pairKinds ≡ entry (numbered N) l i .kind
 
--- Nothing but the start is met, and the caller's bytes are left.
+-- Nothing but the start is met, and the caller's bytes are untouched.
 pub record StartIs (nodes : ℕ) (before after : List ℕ) : Type 0 where
   pub start : (N : Numbered) → Stored N nodes (firstEntry (numbered N) ∷ []) 1 after
   pub others : drop (callerAt nodes) after ≡ drop (callerAt nodes) before
@@ -45,7 +45,7 @@ entryOf N node parent kind = record { node = node; parent = parent; kind = kind 
 abbrev pub countAfter : ℕ → ℕ → ℕ
 countAfter count number = cond (eqb number count) (count + 1) count
 
--- Whatever entries were held, those are held that the meeting makes of them, and the answer is the node's number. The caller's bytes are left.
+-- Whatever entries were held, those are held that the meeting makes of them, and the answer is the node's number. The caller's bytes are untouched.
 pub record MeetIs (nodes : ℕ) (before : List ℕ) (count node parent kind r : ℕ) (after : List ℕ) : Type 0 where
   pub meets : (N : Numbered) (l : List (Entry (numbered N))) → Stored N nodes l count before
       → Stored N nodes (met (numbered N) l (entryOf N node parent kind)) (countAfter count r) after
@@ -71,7 +71,7 @@ pub record PathAsks (nodes : ℕ) (work : List ℕ) (i end : ℕ) : Type 0 where
   pub from : callerAt nodes + i ≤ end
   pub to : end ≤ length work
 
--- Whatever tree is held, entry i's path is written from byte `at` on, up to `end`, and every other byte is left.
+-- Whatever tree is held, entry i's path is written from byte `at` on, up to `end`, and every other byte is untouched.
 pub record PathIs (nodes : ℕ) (before : List ℕ) (i end at : ℕ) (after : List ℕ) : Type 0 where
   pub from : callerAt nodes ≤ at
   pub to : at ≤ end

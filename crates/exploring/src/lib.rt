@@ -1,6 +1,6 @@
 // The entries of an exploration, in lent memory: which nodes were met, in the order of meeting, and from which entry and by
-// which kind each was. Nodes are the numbers below `nodes`. Of the memory the first six bytes a node are the exploration's, as
-// specs/Memory.antt lays them out; the others are the caller's, and no function but `write_path` touches them.
+// which kind each was. Nodes are the numbers below `nodes`. Of the memory the first bytes, six for each node, are the
+// exploration's, as specs/Memory.antt lays them out; the others are the caller's, and no function but `write_path` touches them.
 // No function knows what is explored: whatever entries the memory holds, of whatever automaton, it holds those afterwards that
 // the definitions make of them.
 mod words;

@@ -5,7 +5,9 @@ ghost use mathlib.Core.Path.{_≡_};
 ghost use Prim.Native.Nat.{_*_, _≤_, _<_, _^_};
 ghost use Rattle.convention.specs.Layout.{shapeLength, flagsAt, triesAt, startsAt, tableKindAt, stateLength, statesAt, rowsAt, transitionLength, rowLength, rowAt, transitionAt};
 
-// `lengthBytes`.
+// `lengthAt` and `lengthBytes`.
+pub const LENGTH_AT: usize = 0;
+
 pub const LENGTH_BYTES: usize = 2;
 // `versionAt`.
 pub const VERSION_AT: usize = 2;

@@ -9,7 +9,9 @@ ghost use Prim.Native.Nat.{_+_, _<_, _^_};
 ghost use lib.ListN.{getD};
 ghost use Rattle.convention.specs.Numbers.{orElse, unless as unlessPasses};
 ghost use Rattle.convention.specs.Fields.{partNo, fieldNo, lengthNo, versionOf, headOf, headNo, openingNo, isWidth, isModulus, stateField, leftOverNo};
+ghost use Rattle.convention.specs.Sheets.{blankHead};
 use crate::layout::KINDS_COUNT_AT;
+use crate::layout::LENGTH_AT;
 use crate::layout::LENGTH_BYTES;
 use crate::layout::MODULUS_AT;
 use crate::layout::REGISTERS_AT;
@@ -74,8 +76,8 @@ fn length_no(s: &[u8]) -> u8
     if s.len() < LENGTH_BYTES {
         return 1;
     }
-    let high = byte_at(s, 0) as usize;
-    let low = byte_at(s, 1) as usize;
+    let high = byte_at(s, LENGTH_AT) as usize;
+    let low = byte_at(s, LENGTH_AT + 1) as usize;
     if 256 * high + low == s.len() - LENGTH_BYTES {
         0
     } else {
@@ -99,6 +101,18 @@ pub fn head_of(s: &[u8]) -> Head
         width: byte_at(s, WIDTH_AT),
         modulus: byte_at(s, MODULUS_AT),
         kinds: byte_at(s, KINDS_COUNT_AT),
+    }
+}
+
+// What stands in the place of the head of a file that cannot be read.
+pub fn blank_head() -> Head
+    ensures { λ r. ⌜ r ≡ blankHead ⌝ }
+{
+    Head {
+        registers: 0,
+        width: 0,
+        modulus: 0,
+        kinds: 0,
     }
 }
 

@@ -4,6 +4,7 @@ use convention::Shape;
 ghost use mathlib.Core.Path.{_≡_};
 ghost use Prim.Native.Nat.{_<_};
 ghost use Rattle.convention.specs.Fields.{isAlignment, shapeNo, shapeOf};
+ghost use Rattle.convention.specs.Sheets.{blankShape};
 ghost use Rattle.convention.specs.Shapes.{registersNeeded, rightCount, stackBytes};
 use crate::layout::ALIGNMENT_AT;
 use crate::layout::SIZE_AT;
@@ -31,6 +32,16 @@ pub fn shape_of(version: u8, s: &[u8]) -> Shape
     Shape {
         size: crate::byte_at(s, SIZE_AT),
         alignment: crate::byte_at(s, ALIGNMENT_AT),
+    }
+}
+
+// What stands in the place of a shape that a file does not have.
+pub fn blank_shape() -> Shape
+    ensures { λ r. ⌜ r ≡ blankShape ⌝ }
+{
+    Shape {
+        size: 0,
+        alignment: 0,
     }
 }
 

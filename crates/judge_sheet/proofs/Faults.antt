@@ -27,7 +27,7 @@ tests-most first later a b h k = or-keeps (λ n. n ≤ 4) (unless first a) (unle
     test-most true n h = omega arith
     test-most false n h = h
 
--- A step's.
+-- The fault of a step.
 step-most : (h : Head) (kind : Shape) (x : Transition) (given : List Bool) → tableFault h kind x given ≤ 4
 step-most h kind x given = elim (step-cases h x) [
   | inl r ↦ rw (r .fault kind given) (tests-most (freeRun given (x .a) (x .b)) (rightCount (h .width) (x .b) kind) 2 3 (omega arith) (omega arith))
@@ -35,6 +35,6 @@ step-most h kind x given = elim (step-cases h x) [
   | inr (inr r) ↦ rw (r .fault kind given) (omega arith)
 ]
 
--- A list's.
+-- The fault of a list.
 pub fault-most : (table : Table) (t : List ℕ) (s : ByTable) (ks : List ℕ) → KindsBelow (table .head .kinds) ks → faultFrom (byTable table t) s ks ≤ 4
 fault-most table t = faults-keep (byTable table t) (λ f. f ≤ 4) _ (omega arith) (λ s k b. step-most _ _ _ _)

@@ -2,6 +2,7 @@
 // line. What that line means is `Prints`, crates/convention/specs/Program.antt.
 use convention::BuildingAnswer;
 use convention::JudgingAnswer;
+use convention::STATE_LIMIT;
 use libc::STDIN_FILENO;
 use libc::STDOUT_FILENO;
 ghost use mathlib.Core.Path.{_≡_};
@@ -16,7 +17,7 @@ const INPUT_LIMIT: usize = 1024;
 // `tableRoom`: the most bytes of a table.
 const TABLE_ROOM: usize = 6424;
 // `listRoom`: the most kinds of a verdict's list.
-const LIST_ROOM: usize = 400;
+const LIST_ROOM: usize = 2 * STATE_LIMIT;
 // `lineRoom`: the most bytes of a line.
 const LINE_ROOM: usize = 818;
 

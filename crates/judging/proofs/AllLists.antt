@@ -86,12 +86,12 @@ module _ (m : ℕ) where
   all-upTo (suc n) P f =
       all-append P (listsUpTo m n) _ (all-upTo n P (λ ks b h. f ks b (omega arith))) (all-lists (suc n) P (λ ks b e. f ks b (le-of-eq e)))
 
-  pub upTo-all : (n : ℕ) (P : List ℕ → Type 0) → All P (listsUpTo m n) → (ks : List ℕ) → KindsBelow m ks → length ks ≤ n → P ks
+  pub up-to-each : (n : ℕ) (P : List ℕ → Type 0) → All P (listsUpTo m n) → (ks : List ℕ) → KindsBelow m ks → length ks ≤ n → P ks
   unfolding listsUpTo
-  upTo-all zero P x ks known h = let e : length ks ≡ 0 = omega arith in lists-all ks P (rw e x) known
-  upTo-all (suc n) P x ks known h =
+  up-to-each zero P x ks known h = let e : length ks ≡ 0 = omega arith in lists-all ks P (rw e x) known
+  up-to-each (suc n) P x ks known h =
       let (y, z) = all-split P (listsUpTo m n) _ x in
-      elim (eq-or-lt-of-le h) [ inl e ↦ lists-all ks P (rw e z) known | inr l ↦ upTo-all n P y ks known (omega arith) ]
+      elim (eq-or-lt-of-le h) [ inl e ↦ lists-all ks P (rw e z) known | inr l ↦ up-to-each n P y ks known (omega arith) ]
 
 -- ---- in which order
 

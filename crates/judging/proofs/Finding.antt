@@ -40,7 +40,7 @@ slice-same at from end l l′ h e =
     let same : drop from l ≡ drop from l′ = rw (← place, ← drop-drop (from - at) at l, ← drop-drop (from - at) at l′, e) in
     rw (slice-take from end l, slice-take from end l′, same)
 
--- There is room for entries, and still room where the lists are left or the length is kept.
+-- There is room for entries, and still room where the lists are untouched or the length is kept.
 entry-room : (nodes : ℕ) (work : List ℕ) → SearchRoom nodes work → EntryRoom nodes work
 entry-room nodes work room = record { some = room .some; bytes = omega (arith, room .bytes); words = room .words }
 

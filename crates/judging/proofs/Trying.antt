@@ -19,7 +19,7 @@ use Rattle.convention.specs.Judged.{listsUpTo, Verdict, firstFault, verdictByTr
 use Rattle.convention.specs.Promised.{TableRead}
 use Rattle.convention.proofs.Shortlex.{before-irrefl, before-trans}
 use Rattle.convention.proofs.Tables.{table-read}
-use Rattle.judging.proofs.AllLists.{All, Rising, all-each, all-upTo, upTo-all, rising-upTo}
+use Rattle.judging.proofs.AllLists.{All, Rising, all-each, all-upTo, up-to-each, rising-upTo}
 use Rattle.judging.proofs.Verdict.{bound}
 use Rattle.judging.proofs.Unique.{judge-zero, unique}
 
@@ -76,7 +76,7 @@ abbrev shortLists : List ℕ → List (List ℕ)
 shortLists t = listsUpTo (tableOf t .head .kinds) (judgeRoom t)
 
 short-all : (t : List ℕ) (P : List ℕ → Type 0) → All P (shortLists t) → (ks : List ℕ) → Short t ks → P ks
-short-all t P x ks s = upTo-all (tableOf t .head .kinds) (judgeRoom t) P x ks (s .0) (s .1)
+short-all t P x ks s = up-to-each (tableOf t .head .kinds) (judgeRoom t) P x ks (s .0) (s .1)
 
 -- What the verdict by trying says of them.
 tried : (t : List ℕ) → NoneFaulty (byTable (tableOf t) t) (shortLists t) (verdictByTrying t)

@@ -17,7 +17,7 @@ pub record FoundAsks (nodes : ℕ) (work : List ℕ) (i : ℕ) : Type 0 where
   pub room : SearchRoom nodes work
   pub path : PathAsks nodes work i (foundEnd nodes - 1)
 
--- Whatever tree is held, entry i's path and then kind k are the list found, of n kinds. The best is left.
+-- Whatever tree is held, entry i's path and then kind k are the list found, of n kinds. The best is untouched.
 pub record FoundIs (nodes : ℕ) (before : List ℕ) (i k n : ℕ) (after : List ℕ) : Type 0 where
   pub some : 0 < n
   pub short : n ≤ nodes

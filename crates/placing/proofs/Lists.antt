@@ -10,7 +10,7 @@ use Rattle.convention.specs.declared.Sheet.{Sheet}
 use Rattle.convention.specs.declared.ByRules.{ByRules}
 use Rattle.convention.specs.Bytes.{written}
 use Rattle.convention.specs.Sheets.{sheetKind}
-use Rattle.convention.specs.Lists.{recordOf}
+use Rattle.convention.specs.Lists.{recordLength, recordOf}
 use Rattle.convention.specs.Rules.{placeFault, byRules}
 use Rattle.convention.proofs.Lists.{known}
 use Rattle.stepping.specs.Walks.{WalkIs, recordsBefore}
@@ -53,8 +53,8 @@ module _ (sheet : Sheet) (ks : List ℕ) (i : ℕ) (asks : RulesListAsks sheet k
       standing-hit fault p standing e nz = walk-hit (byRules sheet) ks s i fault p (standing .walk) h (e ∙ ap placeFault (step .placed)) nz
 
       -- After an argument whose record was written.
-      pub writing-on : (before out after : List ℕ) → 6 * length ks ≤ length before → RulesWriting sheet ks before s i out
-          → after ≡ written out (6 * i) (recordOf place) → RulesWriting sheet ks before next (i + 1) after
+      pub writing-on : (before out after : List ℕ) → recordLength * length ks ≤ length before → RulesWriting sheet ks before s i out
+          → after ≡ written out (recordLength * i) (recordOf place) → RulesWriting sheet ks before next (i + 1) after
       writing-on before out after room writing e = record {
         writes = write-on (byRules sheet) ks before out s i (writing .writes) h room after next place (step .placed) e (step .reached);
         reach = next-reach (writing .reach);

@@ -44,7 +44,7 @@ module _ (kind : SheetKind) (taken : List Bool) (count i w : ℕ) (runs : RunsWi
   unfolding skippedBefore
   skipped-on free h e f = omega (arith, rw (rest-of (kind .starts) (kind .tries) i there h, skippedBefore, sym e ∙ f) at inv)
 
--- Marking the runs of those that are skipped: all are marked; the run of the start there is marked, and the others are left.
+-- Marking the runs of those that are skipped: all are marked; the run of the start there is marked, and the others are left to mark.
 module _ (kind : SheetKind) (marked : List Bool) (count skipped i : ℕ) (w : List Bool) (tried : RunsTried kind count skipped)
     (inv : markRuns marked count (drop i (take skipped (startsOf kind))) ≡ w) where
   enough : skipped ≤ length (kind .starts)

@@ -13,7 +13,7 @@ use Rattle.convention.specs.Layout.{kindsAt}
 use Rattle.convention.specs.declared.Head.{Head}
 use Rattle.convention.specs.declared.SheetKind.{SheetKind}
 use Rattle.convention.specs.Sheets.{startsNo, sheetKindLength, sheetKindNo, sheetKindOf, sheetKindsNo, sheetKindsOf, sheetKindsLength, sheetKindAt, blankKind}
-use Rattle.convention.proofs.Parts.{rest-of}
+use Rattle.convention.proofs.Slices.{rest-of}
 use Rattle.convention.proofs.Filled.{filled, fill-turn, fill-done}
 use Rattle.convention.proofs.Sheets.{kind-tries, kind-length, kinds-count, kind-next, kind-within}
 use Rattle.sheet.specs.Kinds.{KindsAre, KindsRest, KindWhole, KindsRight, KindsStored, KindThere}

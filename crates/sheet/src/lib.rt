@@ -3,7 +3,6 @@
 // that starts at its first byte.
 use convention::Head;
 use convention::Reading;
-use convention::Shape;
 use convention::Sheet;
 use convention::SheetAnswer;
 use convention::SheetKind;
@@ -127,11 +126,9 @@ fn kind_of(version: u8, s: &[u8]) -> SheetKind
 fn blank_kind() -> SheetKind
     ensures { λ r. ⌜ r ≡ blankKind ⌝ }
 {
+    let shape = shapes::blank_shape();
     SheetKind {
-        shape: Shape {
-            size: 0,
-            alignment: 0,
-        },
+        shape,
         flags: 0,
         tries: 0,
         starts: [0u8; 16],
@@ -196,12 +193,7 @@ fn blank_sheet() -> Sheet
     ensures { λ r. ⌜ r ≡ blankSheet ⌝ }
 {
     let kinds = blank_kinds();
-    let head = Head {
-        registers: 0,
-        width: 0,
-        modulus: 0,
-        kinds: 0,
-    };
+    let head = fields::blank_head();
     Sheet {
         version: 0,
         head,

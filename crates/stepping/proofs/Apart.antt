@@ -67,7 +67,7 @@ place-rises (Registers first count) p above = omega arith
 place-rises (Stack offset count) p above = omega arith
 place-rises Nowhere p above = omega arith
 
--- A register of a place was free before, and is taken once the place is given out; a stack byte of it does not lie before p, and lies before the p after it.
+-- A register of a place was free before, and is taken once the place is given out; a stack byte of it does not lie before p, and ends at or before the p that follows it.
 has-free : (place : Placement) (taken : List Bool) (r : ℕ) → FreeIn taken place → HasRegister place r → getD taken r false ≡ false
 has-free (Registers first count) taken r free has = free-each taken (first .0) count free r (has .0) (has .1)
 has-free (Stack offset count) taken r free has = absurd has

@@ -26,7 +26,7 @@ unfolding freeRun
 free-on taken at zero w e h f = absurd (omega arith)
 free-on taken at (suc left) w e h f = rw sub-one (rw (f, freeRun) at e)
 
--- Marking it: nothing is left; the register there is marked, and those after it are left.
+-- Marking it: nothing is left; the register there is marked, and those after it are left to mark.
 pub mark-end : (taken : List Bool) (at left : ℕ) (w : List Bool) → markRun taken at left ≡ w → left ≤ 0 → taken ≡ w
 mark-end taken at zero w e h = e
 mark-end taken at (suc left) w e h = absurd (omega arith)

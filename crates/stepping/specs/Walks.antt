@@ -32,7 +32,7 @@ pub record WriteRest (M : Steps) (ks : List ℕ) (before : List ℕ) (s : M .Sta
   pub rest : recordsOf (placesFrom M s (drop i ks)) ≡ drop (recordLength * i) (records M ks)
   pub long : length out ≡ length before
 
--- The records of a list in front of what stood after them.
+-- The records of a list, and after them the bytes that stood there before.
 abbrev pub recordsBefore : (M : Steps) → List ℕ → List ℕ → List ℕ
 recordsBefore M ks before = records M ks ++ drop (length (records M ks)) before
 

@@ -12,7 +12,7 @@ use Rattle.convention.specs.Layout.{shapeLength, transitionLength}
 use Rattle.convention.specs.Tables.{tableKindsNo, transitionOf, isTransition, transitionNo, transitionsNo}
 use Rattle.convention.proofs.Numbers.{part-zero}
 use Rattle.convention.proofs.InTurn.{Things, InTurn, turn-right, turn-wrong, turn-end}
-use Rattle.convention.proofs.Parts.{rest-of}
+use Rattle.convention.proofs.Slices.{rest-of}
 use Rattle.convention.proofs.Fields.{shape-there}
 
 -- Things that are tested in turn, of which one that is right is there in the bytes t.

@@ -13,7 +13,7 @@ use Rattle.convention.specs.Fields.{shapeOf}
 use Rattle.convention.specs.Sheets.{blankShape}
 use Rattle.convention.specs.Tables.{tableKindsOf}
 use Rattle.convention.proofs.Filled.{filled, fill-turn, fill-done}
-use Rattle.convention.proofs.Parts.{rest-of}
+use Rattle.convention.proofs.Slices.{rest-of}
 use Rattle.convention.proofs.Positions.{kind-inside}
 use Rattle.convention.proofs.Tables.{table-kinds-count, table-kind-at}
 use Rattle.table.specs.Within.{KindsThere}

@@ -53,10 +53,7 @@ fn kinds_no(version: u8, head: Head, t: &[u8]) -> u8
 fn blank_kinds() -> [Shape; 8]
     ensures { λ r. ⌜ r ≡ replicate 8 blankShape ⌝ }
 {
-    let blank = Shape {
-        size: 0,
-        alignment: 0,
-    };
+    let blank = shapes::blank_shape();
     [blank; 8]
 }
 
@@ -206,12 +203,7 @@ fn blank_table() -> Table
     ensures { λ r. ⌜ r ≡ blankTable ⌝ }
 {
     let kinds = blank_kinds();
-    let head = Head {
-        registers: 0,
-        width: 0,
-        modulus: 0,
-        kinds: 0,
-    };
+    let head = fields::blank_head();
     Table {
         version: 0,
         head,

@@ -69,7 +69,7 @@ fn refusal(number: u8) -> Answer
     }
 }
 
-// What an answer of placing says in 01's numbers. A call places at most 400 arguments, so the count fits.
+// What an answer of placing says in 01's numbers. A call places so few arguments that the count fits.
 fn placing_says(placing: PlacingAnswer) -> Answer
     requires { ⌜ placingSays placing .count < 2 ^ 16 ⌝ }
     ensures { λ r. ⌜ r ≡ answerOf (placingSays placing) ⌝ }
@@ -113,7 +113,7 @@ fn building_says(building: BuildingAnswer) -> Answer
     }
 }
 
-// What a verdict says: fault number and list length, both 0 where clean. A list has at most 400 kinds, so its length fits.
+// What a verdict says: fault number and list length, both 0 where clean. A list has at most 2N kinds, so its length fits.
 fn judging_says(verdict: JudgingAnswer) -> Answer
     requires { ⌜ judgingSays verdict .count < 2 ^ 16 ⌝ }
     ensures { λ r. ⌜ r ≡ answerOf (judgingSays verdict) ⌝ }

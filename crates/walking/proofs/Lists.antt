@@ -9,7 +9,7 @@ use Rattle.convention.specs.declared.ByTable.{ByTable}
 use Rattle.convention.specs.declared.Placement.{Placement}
 use Rattle.convention.specs.declared.Transition.{Transition}
 use Rattle.convention.specs.declared.Offset.{Offset}
-use Rattle.convention.specs.Lists.{recordOf}
+use Rattle.convention.specs.Lists.{recordLength, recordOf}
 use Rattle.convention.specs.Bytes.{written}
 use Rattle.convention.specs.Tables.{tableKind, transition}
 use Rattle.convention.specs.Walked.{byTable}
@@ -81,7 +81,7 @@ module _ (table : Table) (t ks before : List ℕ) (asks : WriteAsks table t ks b
       writing-asks = next-asks table t ks (asks .walk) s i (writing .standing) h
 
       pub writing-on : (place : Placement) (next : ByTable) (after : List ℕ) → ArgumentIs table t s (getD ks i 0) place next
-          → after ≡ written out (6 * i) (recordOf place) → TableWriting table t ks before next (i + 1) after
+          → after ≡ written out (recordLength * i) (recordOf place) → TableWriting table t ks before next (i + 1) after
       writing-on place next after argument ea =
           let none = turn-free (byTable table t) s ks i h (writing .standing .walk .fault ∙ asks .free) in
           record {

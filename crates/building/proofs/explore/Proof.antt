@@ -1,4 +1,4 @@
--- `explore`: before state i the states kept are those met once the states below i were gone through; 200 turns are enough.
+-- `explore`: before state i the states kept are those met once the states below i were gone through; as many turns as the limit are enough.
 use Prim.Native.Nat.{_-_}
 use Rattle.convention.specs.Numbers.{stateLimit}
 use Rattle.building.specs.Holding.{Exploring}

@@ -15,6 +15,9 @@ slice-write-out c = search needs
 cast-out-2 : tie.Need-cast-out-2
 cast-out-2 c = search needs
 
+add-out : tie.Need-add-out
+add-out c = search needs
+
 slice-write-out-2 : tie.Need-slice-write-out-2
 slice-write-out-2 c = simp length-set (omega arith)
 
@@ -46,6 +49,7 @@ write-opening-spec =
     cast-out
     slice-write-out
     cast-out-2
+    add-out
     slice-write-out-2
     slice-write-out-3
     slice-write-out-4

@@ -1,5 +1,5 @@
 -- `start`: where every mark is 0 the first entry is appended.
-use Rattle.exploring.proofs.Meeting.{start-appends, start-is}
+use Rattle.exploring.proofs.Meeting.{start-appends, started-is}
 use borrow.Author.Needs.{needs}
 use Rattle.exploring.proofs.start.Statement.{statement}
 use Rattle.exploring.proofs.start.Tie as tie
@@ -14,7 +14,7 @@ same-length : tie.Need-same-length
 same-length c = search needs
 
 returns : tie.Need-returns
-returns c = search (start-is, needs)
+returns c = search (started-is, needs)
 
 pub start-spec : {M : Type 1} → statement M
 start-spec = tie.close (tie.spec clear-requires append-requires same-length returns)

@@ -13,6 +13,9 @@ byte-at-requires c κs = search needs
 cast-high : tie.Need-cast-high
 cast-high c = search needs
 
+add-byte-at : tie.Need-add-byte-at
+add-byte-at c = search needs
+
 byte-at-requires-2 : tie.Need-byte-at-requires-2
 byte-at-requires-2 c κs = search needs
 
@@ -41,6 +44,7 @@ length-no-spec =
     returns
     byte-at-requires
     cast-high
+    add-byte-at
     byte-at-requires-2
     cast-low
     mul-if2

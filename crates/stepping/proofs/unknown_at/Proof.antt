@@ -1,4 +1,4 @@
--- `stepping::unknown_at` meets its contract: at each position, the answer is as far after it as in what is left of the list.
+-- `stepping::unknown_at` meets its contract: at each position, what is left of the list gives the answer, counted from there on.
 use Prim.Native.Nat.{_+_, _-_, _≤_}
 use mathlib.Core.Path.{_≡_}
 use lib.ListN.{length, drop}
