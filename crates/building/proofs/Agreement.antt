@@ -117,16 +117,16 @@ module _ (limit : ℕ) (sheet : Sheet) (R : SheetRead sheet) (whole : length (bu
 
     -- The table's transition is made of the place that the rules give in s.
     stored : transition (tableOf (builtTable limit sheet)) (builtTable limit sheet) (u .state) k ≡ made (h .modulus) place next
-    stored = built-transition sheet l (u .state) k (t .inside) b ∙ rw (t .node) (made-here sheet R s k b l)
+    stored = built-transition _ sheet l (u .state) k (t .inside) b ∙ rw (t .node) (made-here sheet R s k b l)
 
     place-together : byBuilt limit sheet .place u k ≡ byRules sheet .place s k
     place-together =
         ap (λ x. tablePlace (tableOf (builtTable limit sheet) .head) x (u .p .0)) stored
-        ∙ rw (built-head sheet l, t .offset) (made-place h kind s (R .head) (R .kind k b) place next gives)
+        ∙ rw (built-head _ sheet l, t .offset) (made-place h kind s (R .head) (R .kind k b) place next gives)
 
     fault-together : byBuilt limit sheet .fault u k ≡ byRules sheet .fault s k
     fault-together =
-        rw (stored, built-kind sheet l k b, built-head sheet l) (made-fault h kind s (R .head) (R .kind k b) place next (u .given) gives (t .given))
+        rw (stored, built-kind _ sheet l k b, built-head _ sheet l) (made-fault h kind s (R .head) (R .kind k b) place next (u .given) gives (t .given))
 
     -- Where there is a place, there is a next state.
     next-inside : byRules sheet .fault s k ≡ 0 → next < length l
@@ -139,7 +139,7 @@ module _ (limit : ℕ) (sheet : Sheet) (R : SheetRead sheet) (whole : length (bu
     unfolding rulesAfter
     after-together f =
         let room : h .registers ≤ length (s .unavailable) = omega (arith, R .head .registers, t .sixteen) in
-        rw (stored, built-head sheet l, made-after h kind s (R .head) (R .kind k b) place next u gives (t .offset) f) (record {
+        rw (stored, built-head _ sheet l, made-after h kind s (R .head) (R .kind k b) place next u gives (t .offset) f) (record {
           inside = next-inside f;
           node = node-number X (allocations-decide sheet) l _ (next-inside f);
           offset = refl;

@@ -18,7 +18,7 @@ use Rattle.convention.specs.Numbers.{stateLimit, orElse, unless, reading}
 use Rattle.convention.specs.Bytes.{written}
 use Rattle.convention.specs.Sheets.{readSheet}
 use Rattle.convention.specs.Layout.{rowAt}
-use Rattle.convention.specs.Built.{builtVersion, builtStates, builtTable, buildNo, builtOrRefused, build, buildWrites, buildMemory}
+use Rattle.convention.specs.Built.{builtVersion, tableOfStates, builtStates, builtTable, buildNo, builtOrRefused, build, buildWrites, buildMemory}
 use Rattle.convention.specs.Promised.{SheetRead}
 use Rattle.convention.proofs.Runs.{either}
 use Rattle.convention.proofs.Numbers.{or-zero, or-here, unless-zero}
@@ -46,7 +46,7 @@ answer-built number n len z = rw z
 
 -- A sheet that was read, whose states were explored: the number is that of 'Building: 11, 12'.
 module _ (sheet : Sheet) (states : List ℕ) (met : Met) (before : List ℕ) (len number : ℕ) (answer : BuildingAnswer)
-    (holds : MetHolds sheet states met (builtStates stateLimit sheet)) (v : ℕ) (ev : v ≡ builtVersion sheet) (el : len ≡ rowAt v (sheet .head) (met .count))
+    (holds : MetHolds sheet states met (builtStates stateLimit sheet)) (v : ℕ) (ev : v ≡ builtVersion sheet (met .count)) (el : len ≡ rowAt v (sheet .head) (met .count))
     (en : number ≡ orElse (unless (not (met .over)) 11) (unless (leb len (length before)) 12)) (ea : answer ≡ builtOrRefused number (met .count) len) where
   -- Where there are not too many states, the length is the table's.
   module _ (o : met .over ≡ false) where
@@ -54,7 +54,7 @@ module _ (sheet : Sheet) (states : List ℕ) (met : Met) (before : List ℕ) (le
     few = omega (arith, holds .room .few, holds .all o .many)
 
     whole : len ≡ length (builtTable stateLimit sheet)
-    whole = el ∙ rw (ev, holds .all o .many) (sym (built-length sheet (builtStates stateLimit sheet)))
+    whole = el ∙ rw (ev, holds .all o .many) (sym (built-length _ sheet (builtStates stateLimit sheet)))
 
   table-number : number ≡ tableNumber sheet (length before)
   table-number = elim (either (met .over)) [
@@ -82,16 +82,16 @@ module _ (sheet : Sheet) (states : List ℕ) (met : Met) (before : List ℕ) (le
       | inr o ↦ o
     ]
 
-    pub table-asks : SheetRead sheet → TableAsks sheet states (met .count) before
+    pub table-asks : SheetRead sheet → TableAsks v sheet states (met .count) before
     table-asks read = record {
       kept = record { read = read; room = holds .room; keeps = holds .all all-met };
-      there = rw (← ev, ← el) (leb-true _ _ (unless-zero _ 12 (omega arith) (passed .1)));
+      there = rw (← el) (leb-true _ _ (unless-zero _ 12 (omega arith) (passed .1)));
     }
 
-    pub table-built : (after : List ℕ) → after ≡ written before 0 (builtTable stateLimit sheet) → BuildingIs sheet before answer after
+    pub table-built : (after : List ℕ) → after ≡ written before 0 (tableOfStates v sheet (builtStates stateLimit sheet)) → BuildingIs sheet before answer after
     table-built after e =
         let none : tableNumber sheet (length before) ≡ 0 = sym table-number ∙ z in
-        record { answers = ea ∙ rw (none, z, holds .all all-met .many, whole all-met); memory = rw none (e ∙ rw zero-add) }
+        record { answers = ea ∙ rw (none, z, holds .all all-met .many, whole all-met); memory = rw none (rw (ev, holds .all all-met .many) at e ∙ rw zero-add) }
 
 -- The reader's answer.
 module _ (s : List ℕ) (a : SheetAnswer) (ea : a ≡ readSheet s) where

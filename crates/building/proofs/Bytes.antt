@@ -24,8 +24,8 @@ states-fit limit s e = leb-true _ limit (unless-zero _ 11 (omega arith) e)
 pub built-most : (limit : ℕ) (s : List ℕ) → sheetNo s ≡ 0 → statesNumber limit (sheetOf s) ≡ 0 → length (builtTable limit (sheetOf s)) ≤ builtMost limit
 unfolding builtVersion
 built-most limit s read e =
-    rw (built-length (sheetOf s) (builtStates limit (sheetOf s)))
-    (table-most (builtVersion (sheetOf s)) (sheetOf s .head) _ limit (sheet-read s read .head .kinds) (states-fit limit s e))
+    rw (built-length _ (sheetOf s) (builtStates limit (sheetOf s)))
+    (table-most _ (sheetOf s .head) _ limit (sheet-read s read .head .kinds) (states-fit limit s e))
 
 module _ (limit : ℕ) (s : List ℕ) (room n len : ℕ) (built : build limit s room ≡ Built n len) where
   abbrev table : List ℕ

@@ -32,7 +32,7 @@ module _ (states arguments : ℕ) (s : List ℕ) (e : sheetNo s ≡ 0) (whole : 
   same-number = readable states sheet read whole said ∙ sym e
 
   same-kinds : tableOf (builtTable states sheet) .head .kinds ≡ sheet .head .kinds
-  same-kinds = ap (λ (h : Head). h .kinds) (built-head sheet (builtStates states sheet))
+  same-kinds = ap (λ (h : Head). h .kinds) (built-head _ sheet (builtStates states sheet))
 
   -- Placing by the built table gives the answer of placing by the sheet, refusals too.
   pub same-answer : (ks : List ℕ) (room : ℕ) → placeByTable states arguments (builtTable states (sheetOf s)) ks room ≡ placeByRules arguments s ks room

@@ -42,6 +42,6 @@ module _ (limit : ℕ) (sheet : Sheet) (R : SheetRead sheet) (whole : length (bu
   pub clean-if-stack : ((k : ℕ) → k < sheet .head .kinds → mayUseStack (sheetKind sheet k) ≡ true) → CleanTable (builtTable limit sheet)
   unfolding CleanTable FaultyList
   clean-if-stack stack ks faulty =
-      let below : KindsBelow (sheet .head .kinds) ks = rw (built-head sheet (builtStates limit sheet)) at (faulty .0) in
+      let below : KindsBelow (sheet .head .kinds) ks = rw (built-head _ sheet (builtStates limit sheet)) at (faulty .0) in
       let none = faults-keep (byRules sheet) (λ f. f ≤ 0) (sheet .head .kinds) (omega arith) (λ s k b. stack-placed _ _ s (stack k b)) (byRules sheet .begin) ks below in
       omega (arith, faulty .1, agree-fault limit sheet R whole ks below, none)

@@ -57,53 +57,50 @@ made-right h kind s (Stack offset count) states next g a n = and-eq-true-iff _ _
 made-right h kind s Nowhere states next g a n = refl
 
 -- How long the kinds are.
-pub kind-wide : (sheet : Sheet) (k : ℕ) → length (builtKind sheet k) ≡ shapeLength (builtVersion sheet)
-kind-wide sheet k = shape-wide (builtVersion sheet) (sheetKind sheet k .shape)
+pub kind-wide : (v : ℕ) (sheet : Sheet) (k : ℕ) → length (builtKind v sheet k) ≡ shapeLength v
+kind-wide v sheet k = shape-wide v (sheetKind sheet k .shape)
 
-pub kinds-length : (sheet : Sheet) → length (blocks (builtKind sheet) (sheet .head .kinds)) ≡ shapeLength (builtVersion sheet) * sheet .head .kinds
-kinds-length sheet = length-blocks (builtKind sheet) (shapeLength (builtVersion sheet)) (sheet .head .kinds) (λ k b. kind-wide sheet k)
+pub kinds-length : (v : ℕ) (sheet : Sheet) → length (blocks (builtKind v sheet) (sheet .head .kinds)) ≡ shapeLength v * sheet .head .kinds
+kinds-length v sheet = length-blocks (builtKind v sheet) (shapeLength v) (sheet .head .kinds) (λ k b. kind-wide v sheet k)
 
 -- The table whose states are the entries of l.
-module _ (sheet : Sheet) (l : List (Entry (allocations sheet))) where
+module _ (v : ℕ) (sheet : Sheet) (l : List (Entry (allocations sheet))) where
   abbrev bytes : List ℕ
-  bytes = tableOfStates sheet l
-
-  abbrev v : ℕ
-  v = builtVersion sheet
+  bytes = tableOfStates v sheet l
 
   abbrev h : Head
   h = sheet .head
 
   abbrev kinds : List ℕ
-  kinds = blocks (builtKind sheet) (h .kinds)
+  kinds = blocks (builtKind v sheet) (h .kinds)
 
   abbrev rows : List ℕ
-  rows = blocks (builtRow sheet l) (length l)
+  rows = blocks (builtRow v sheet l) (length l)
 
   abbrev node : ℕ → Allocation
   node i = entry (allocations sheet) l i .node
 
   -- How long the blocks are.
-  pub cell-wide : (a : Allocation) (k : ℕ) → length (builtCell sheet l a k) ≡ transitionLength (builtVersion sheet)
+  pub cell-wide : (a : Allocation) (k : ℕ) → length (builtCell v sheet l a k) ≡ transitionLength v
   unfolding builtCell
   cell-wide a k = transition-wide v (builtTransition sheet l a k)
 
-  pub row-wide : (i : ℕ) → length (builtRow sheet l i) ≡ rowLength (builtVersion sheet) (sheet .head)
+  pub row-wide : (i : ℕ) → length (builtRow v sheet l i) ≡ rowLength v (sheet .head)
   unfolding builtRow
   row-wide i = length-blocks _ (transitionLength v) (h .kinds) (λ k b. cell-wide (node i) k)
 
   rows-length : length rows ≡ rowLength v h * length l
-  rows-length = length-blocks (builtRow sheet l) (rowLength v h) (length l) (λ i b. row-wide i)
+  rows-length = length-blocks (builtRow v sheet l) (rowLength v h) (length l) (λ i b. row-wide i)
 
   -- So the table is as long as the reader counts.
-  pub built-length : length (tableOfStates sheet l) ≡ tableLength (builtVersion sheet) (sheet .head) (length l)
+  pub built-length : length (tableOfStates v sheet l) ≡ tableLength v (sheet .head) (length l)
   unfolding tableOfStates builtBody
   built-length = simp (length-append, kinds-length, state-wide, rows-length) (omega arith)
 
   -- The length is right.
   length-right : length bytes < 65536 → lengthNo bytes ≡ 0
   unfolding tableOfStates
-  length-right b = length-pass (builtBody sheet l) (omega arith)
+  length-right b = length-pass (builtBody v sheet l) (omega arith)
 
   -- The version, the head, and what stands from the kinds, from N and from the rows on.
   version-bytes : versionOf bytes ≡ v
@@ -119,38 +116,38 @@ module _ (sheet : Sheet) (l : List (Entry (allocations sheet))) where
   from-kinds = refl
 
   from-states : drop (statesAt v h) bytes ≡ stateBytes v (length l) ++ rows
-  from-states = sym (drop-drop (shapeLength v * h .kinds) kindsAt bytes) ∙ rw from-kinds (drop-at kinds _ _ (kinds-length sheet))
+  from-states = sym (drop-drop (shapeLength v * h .kinds) kindsAt bytes) ∙ rw from-kinds (drop-at kinds _ _ (kinds-length v sheet))
 
   from-rows : drop (rowsAt v h) bytes ≡ rows
   from-rows = sym (drop-drop (stateLength v) (statesAt v h) bytes) ∙ rw from-states (drop-at (stateBytes v (length l)) rows _ (state-wide v (length l)))
 
   -- The bytes of kind k, and those of the transition of state i and kind k.
-  kind-bytes : (k : ℕ) → k < h .kinds → take (shapeLength v) (drop (shapeLength v * k) (drop kindsAt bytes)) ≡ builtKind sheet k
-  kind-bytes k b = rw from-kinds (block-in (builtKind sheet) (shapeLength v) (h .kinds) (λ k b. kind-wide sheet k) _ k b)
+  kind-bytes : (k : ℕ) → k < h .kinds → take (shapeLength v) (drop (shapeLength v * k) (drop kindsAt bytes)) ≡ builtKind v sheet k
+  kind-bytes k b = rw from-kinds (block-in (builtKind v sheet) (shapeLength v) (h .kinds) (λ k b. kind-wide v sheet k) _ k b)
 
   cell-bytes : (i k : ℕ) → i < length l → k < h .kinds
-      → take (transitionLength v) (drop (transitionAt v h i k) bytes) ≡ builtCell sheet l (node i) k
+      → take (transitionLength v) (drop (transitionAt v h i k) bytes) ≡ builtCell v sheet l (node i) k
   unfolding builtRow
   cell-bytes i k b c =
       let here = drop (rowLength v h * i) rows in
-      let row : take (rowLength v h) here ≡ builtRow sheet l i =
-      rw append-nil at (block-in (builtRow sheet l) (rowLength v h) (length l) (λ i b. row-wide i) [] i b) in
+      let row : take (rowLength v h) here ≡ builtRow v sheet l i =
+      rw append-nil at (block-in (builtRow v sheet l) (rowLength v h) (length l) (λ i b. row-wide i) [] i b) in
       let from-row : here ≡ drop (rowAt v h i) bytes = rw (← from-rows, drop-drop) in
-      let place : drop (transitionAt v h i k) bytes ≡ drop (transitionLength v * k) (builtRow sheet l i ++ drop (rowLength v h) here) =
+      let place : drop (transitionAt v h i k) bytes ≡ drop (transitionLength v * k) (builtRow v sheet l i ++ drop (rowLength v h) here) =
       sym (drop-drop (transitionLength v * k) (rowAt v h i) bytes) ∙ rw (← from-row, ← row, take-append-drop) in
-      rw place (block-in (builtCell sheet l (node i)) (transitionLength v) (h .kinds) (λ k b. cell-wide (node i) k) _ k c)
+      rw place (block-in (builtCell v sheet l (node i)) (transitionLength v) (h .kinds) (λ k b. cell-wide (node i) k) _ k c)
 
   -- The version and the head that are read are the sheet's.
-  pub built-version : tableOf (tableOfStates sheet l) .version ≡ builtVersion sheet
+  pub built-version : tableOf (tableOfStates v sheet l) .version ≡ v
   unfolding tableOf
   built-version = version-bytes
 
-  pub built-head : tableOf (tableOfStates sheet l) .head ≡ sheet .head
+  pub built-head : tableOf (tableOfStates v sheet l) .head ≡ sheet .head
   unfolding tableOf
   built-head = head-bytes
 
   -- N is the number of states.
-  pub built-states : tableOf (tableOfStates sheet l) .states ≡ length l
+  pub built-states : tableOf (tableOfStates v sheet l) .states ≡ length l
   unfolding tableOf
   built-states =
       let part : take (stateLength v) (drop (statesAt v h) bytes) ≡ stateBytes v (length l) =
@@ -166,7 +163,7 @@ module _ (sheet : Sheet) (l : List (Entry (allocations sheet))) where
       rw (version-bytes, head-bytes) (filled-length (tableKindsOf v (drop kindsAt bytes) (h .kinds)) (h .kinds) 8 blankShape (table-kinds-count v _ (h .kinds)) b)
 
   -- Their shapes are the sheet's.
-  pub built-kind : (k : ℕ) → k < sheet .head .kinds → tableKind (tableOf (tableOfStates sheet l)) k ≡ sheetKind sheet k .shape
+  pub built-kind : (k : ℕ) → k < sheet .head .kinds → tableKind (tableOf (tableOfStates v sheet l)) k ≡ sheetKind sheet k .shape
   unfolding tableOf
   built-kind k b =
       let from = drop kindsAt bytes in
@@ -182,7 +179,7 @@ module _ (sheet : Sheet) (l : List (Entry (allocations sheet))) where
 
   -- Each transition is the one made of the rules' place in that state and of the next state's number.
   pub built-transition : (i k : ℕ) → i < length l → k < sheet .head .kinds
-      → transition (tableOf (tableOfStates sheet l)) (tableOfStates sheet l) i k ≡ builtTransition sheet l (entry (allocations sheet) l i .node) k
+      → transition (tableOf (tableOfStates v sheet l)) (tableOfStates v sheet l) i k ≡ builtTransition sheet l (entry (allocations sheet) l i .node) k
   unfolding tableOf builtCell
   built-transition i k b c =
       rw (version-bytes, head-bytes, ← transition-part v bytes (transitionAt v h i k), cell-bytes i k b c)
@@ -192,6 +189,9 @@ module _ (sheet : Sheet) (l : List (Entry (allocations sheet))) where
 module _ (limit : ℕ) (sheet : Sheet) (R : SheetRead sheet) (whole : length (builtStates limit sheet) ≤ limit) (said : LengthSaid limit) where
   abbrev l : List (Entry (allocations sheet))
   l = builtStates limit sheet
+
+  abbrev v : ℕ
+  v = builtVersion sheet (length l)
 
   abbrev table : List ℕ
   table = builtTable limit sheet
@@ -209,20 +209,20 @@ module _ (limit : ℕ) (sheet : Sheet) (R : SheetRead sheet) (whole : length (bu
   promised : TableRead limit (tableOf table) table
   unfolding builtVersion
   promised = record {
-    version = rw (built-version sheet l);
-    head = rw (built-head sheet l) (R .head);
-    eight = kinds-eight sheet l (R .head .kinds);
-    kind = rw (built-head sheet l) (λ k b. rw (built-kind sheet l k b) (R .kind k b .shape));
-    some = rw (built-states sheet l) (met-some (allocations sheet) limit);
-    states = rw (built-states sheet l) whole;
-    whole = rw (built-version sheet l, built-head sheet l, built-states sheet l) (built-length sheet l);
-    transition = rw (built-head sheet l, built-states sheet l) (λ i k h b.
-        ap (isTransition (sheet .head) (length l)) (rw (built-head sheet l) at (built-transition sheet l i k h b)) ∙ right i k h b);
+    version = rw (built-version v sheet l);
+    head = rw (built-head v sheet l) (R .head);
+    eight = kinds-eight v sheet l (R .head .kinds);
+    kind = rw (built-head v sheet l) (λ k b. rw (built-kind v sheet l k b) (R .kind k b .shape));
+    some = rw (built-states v sheet l) (met-some (allocations sheet) limit);
+    states = rw (built-states v sheet l) whole;
+    whole = rw (built-version v sheet l, built-head v sheet l, built-states v sheet l) (built-length v sheet l);
+    transition = rw (built-head v sheet l, built-states v sheet l) (λ i k h b.
+        ap (isTransition (sheet .head) (length l)) (rw (built-head v sheet l) at (built-transition v sheet l i k h b)) ∙ right i k h b);
   }
 
   -- The built table can be read.
   pub readable : tableNo limit (builtTable limit sheet) ≡ 0
   readable =
-      let most = table-most (builtVersion sheet) (sheet .head) (length l) limit (R .head .kinds) whole in
-      let short : length table < 65536 = rw built-length (omega (arith, most, said (builtVersion sheet))) in
-      table-pass limit table promised (length-right sheet l short)
+      let most = table-most v (sheet .head) (length l) limit (R .head .kinds) whole in
+      let short : length table < 65536 = rw built-length (omega (arith, most, said v)) in
+      table-pass limit table promised (length-right v sheet l short)

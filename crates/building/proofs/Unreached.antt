@@ -42,11 +42,11 @@ module _ (limit : ℕ) (sheet : Sheet) where
 
     table-goes : Y .goes i k ≡ true
     table-goes =
-        ap (λ x. ltb 0 (x .form)) (built-transition sheet l i k h b)
+        ap (λ x. ltb 0 (x .form)) (built-transition _ sheet l i k h b)
         ∙ lt-ltb 0 _ (made-form (sheet .head .modulus) place next (eqb-true _ 0 g))
 
     table-next : Y .next i k ≡ next
-    table-next = ap (λ x. x .next) (built-transition sheet l i k h b) ∙ made-next (sheet .head .modulus) place next (eqb-true _ 0 g)
+    table-next = ap (λ x. x .next) (built-transition _ sheet l i k h b) ∙ made-next (sheet .head .modulus) place next (eqb-true _ 0 g)
 
   tree : Tree X l
   tree = met-scanned X (allocations-decide sheet) limit .tree
@@ -58,7 +58,7 @@ module _ (limit : ℕ) (sheet : Sheet) where
       let p = entry X l i .parent in
       let k = entry X l i .kind in
       let inside : p < length l = omega (arith, c .lower) in
-      let below = subst (λ (x : Head). k < x .kinds) (sym (built-head sheet l)) (c .kind-below) in
+      let below = subst (λ (x : Head). k < x .kinds) (sym (built-head _ sheet l)) (c .kind-below) in
       let leads = leads-snoc Y 0 (r .0) p k (r .1) below (table-goes p k inside (c .kind-below) (c .goes)) in
       let numbered = ap (number X l) (sym (c .next)) ∙ number-entry X l tree (allocations-decide sheet) i h in
       let there : Y .next p k ≡ i = table-next p k inside (c .kind-below) (c .goes) ∙ numbered in
@@ -67,4 +67,4 @@ module _ (limit : ℕ) (sheet : Sheet) where
   -- A built table has no state that no list of its kinds reaches.
   pub no-unreached : (i : ℕ) → i < tableOf (builtTable limit sheet) .states → Reached (tableStates (builtTable limit sheet)) i
   unfolding Leads
-  no-unreached i h = by-parents X l tree (Reached Y) ([], refl) child-reached i (rw (built-states sheet l) at h)
+  no-unreached i h = by-parents X l tree (Reached Y) ([], refl) child-reached i (rw (built-states _ sheet l) at h)

@@ -22,7 +22,7 @@ use Rattle.convention.specs.Fields.{shapeBytes, stateBytes}
 use Rattle.convention.specs.Sheets.{sheetKind}
 use Rattle.convention.specs.Tables.{transitionBytes}
 use Rattle.convention.specs.Explored.{Entry}
-use Rattle.convention.specs.Built.{allocations, made, builtVersion, builtCell, builtRow, builtKind, builtBody, tableOfStates, builtStates, builtTable}
+use Rattle.convention.specs.Built.{allocations, made, builtCell, builtRow, builtKind, builtBody, tableOfStates, builtStates}
 use Rattle.convention.proofs.Bytes.{length-written, written-nothing, written-sets, written-one, written-more, written-block}
 use Rattle.convention.proofs.Positions.{state-wide, kind-inside, row-inside, transition-inside}
 use Rattle.building.specs.Holding.{MetRoom, StateAt, Finds, LeadIs}
@@ -77,9 +77,9 @@ pub cell-written : (v : ℕ) (h : Head) (kind : SheetKind) (a : Allocation) (sta
     → x ≡ made (h .modulus) place number → now ≡ written d at (transitionBytes v x) → CellIs v h kind a states count d at now
 unfolding builtCell
 cell-written v h kind a states count place next number x d at now lead finds ex e = record {
-  cell = λ sheet k ev eh ek keeps.
+  cell = λ sheet k eh ek keeps.
       let here = lead-of sheet k h kind a place next eh ek lead in
-      rw (← ev, ← here .placed, ← here .after, ← finds .finds sheet _ keeps, ← eh) (rw ex at e);
+      rw (← here .placed, ← here .after, ← finds .finds sheet _ keeps, ← eh) (rw ex at e);
 }
 
 -- Blocks of w bytes, one after the other from byte `at` on: none yet, one more, all.
@@ -102,25 +102,22 @@ module _ (f : ℕ → List ℕ) (at all : ℕ) (before : List ℕ) where
   blocks-end n out half h = let same : n ≡ all = omega (arith, half .within) in rw same at (half .there)
 
 -- The kinds.
-module _ (sheet : Sheet) (k : ℕ) (before out : List ℕ) (asks : KindsAsk sheet before) (h : k < sheet .head .kinds)
-    (half : BlocksSoFar (builtKind sheet) kindsAt k (sheet .head .kinds) before out) (v at : ℕ) (ev : v ≡ builtVersion sheet) (ea : at ≡ tableKindAt v k) where
-  inside : tableKindAt (builtVersion sheet) k + shapeLength (builtVersion sheet) ≤ length before
-  inside = omega (arith, kind-inside (builtVersion sheet) (sheet .head) k h, asks .there)
+module _ (v : ℕ) (sheet : Sheet) (k : ℕ) (before out : List ℕ) (asks : KindsAsk v sheet before) (h : k < sheet .head .kinds)
+    (half : BlocksSoFar (builtKind v sheet) kindsAt k (sheet .head .kinds) before out) (at : ℕ) (ea : at ≡ tableKindAt v k) where
+  inside : tableKindAt v k + shapeLength v ≤ length before
+  inside = omega (arith, kind-inside v (sheet .head) k h, asks .there)
 
   -- There is room for one more, and it is written.
   pub kind-room : at + shapeLength v ≤ length out
-  kind-room = rw (ea, ev, half .long) inside
+  kind-room = rw (ea, half .long) inside
 
   pub kind-on : (after : List ℕ) → after ≡ written out at (shapeBytes v (sheetKind sheet k .shape))
-      → BlocksSoFar (builtKind sheet) kindsAt (k + 1) (sheet .head .kinds) before after
+      → BlocksSoFar (builtKind v sheet) kindsAt (k + 1) (sheet .head .kinds) before after
   kind-on after e =
-      blocks-on (builtKind sheet) kindsAt _ before (shapeLength (builtVersion sheet)) k out after (kind-wide sheet) half h inside (rw (ea, ev) at e)
+      blocks-on (builtKind v sheet) kindsAt _ before (shapeLength v) k out after (kind-wide v sheet) half h inside (rw ea at e)
 
 -- The rows.
-module _ (sheet : Sheet) where
-  abbrev v : ℕ
-  v = builtVersion sheet
-
+module _ (v : ℕ) (sheet : Sheet) where
   abbrev head : Head
   head = sheet .head
 
@@ -131,41 +128,41 @@ module _ (sheet : Sheet) where
   l = builtStates stateLimit sheet
 
   -- The cells of a row.
-  module _ (states : List ℕ) (count i k : ℕ) (before out : List ℕ) (asks : RowAsks sheet states count i before) (a : Allocation)
-      (half : BlocksSoFar (builtCell sheet l a) (rowAt v head i) k m before out) where
+  module _ (states : List ℕ) (count i k : ℕ) (before out : List ℕ) (asks : RowAsks v sheet states count i before) (a : Allocation)
+      (half : BlocksSoFar (builtCell v sheet l a) (rowAt v head i) k m before out) where
     -- One more.
-    module _ (h : k < m) (v′ at : ℕ) (ev : v′ ≡ v) (ea : at ≡ transitionAt v′ head i k) where
+    module _ (h : k < m) (at : ℕ) (ea : at ≡ transitionAt v head i k) where
       there : transitionAt v head i k + transitionLength v ≤ length before
       there = omega (arith, transition-inside v head count i (asks .inside) k h, asks .asks .there)
 
-      pub cell-asks : CellAsks v′ (sheet .head) (sheetKind sheet k) states count out at
+      pub cell-asks : CellAsks v (sheet .head) (sheetKind sheet k) states count out at
       cell-asks =
           let kept = asks .asks .kept in
-          record { lead = lead-asks sheet k (kept .read) h; room = kept .room; there = rw (ea, ev, half .long) there }
+          record { lead = lead-asks sheet k (kept .read) h; room = kept .room; there = rw (ea, half .long) there }
 
-      pub cell-on : (after : List ℕ) → CellIs v′ (sheet .head) (sheetKind sheet k) a states count out at after
-          → BlocksSoFar (builtCell sheet l a) (rowAt v head i) (k + 1) m before after
+      pub cell-on : (after : List ℕ) → CellIs v (sheet .head) (sheetKind sheet k) a states count out at after
+          → BlocksSoFar (builtCell v sheet l a) (rowAt v head i) (k + 1) m before after
       cell-on after is =
-          blocks-on (builtCell sheet l a) (rowAt v head i) m before (transitionLength v) k out after (cell-wide sheet l a) half h there
-          (rw (ea, ev) at (is .cell sheet k ev refl refl (asks .asks .kept .keeps)))
+          blocks-on (builtCell v sheet l a) (rowAt v head i) m before (transitionLength v) k out after (cell-wide v sheet l a) half h there
+          (rw ea at (is .cell sheet k refl refl (asks .asks .kept .keeps)))
 
     -- All of them.
-    pub row-end : StateAt states i a → m ≤ k → out ≡ written before (rowAt (builtVersion sheet) (sheet .head) i) (builtRow sheet (builtStates stateLimit sheet) i)
+    pub row-end : StateAt states i a → m ≤ k → out ≡ written before (rowAt v (sheet .head) i) (builtRow v sheet (builtStates stateLimit sheet) i)
     unfolding builtRow
     row-end from h =
         let node = from .state sheet count l (asks .asks .kept .keeps) (asks .inside) in
         rw node (blocks-end _ (rowAt v head i) m before k out half h)
 
   -- The rows.
-  module _ (states : List ℕ) (count i : ℕ) (before out : List ℕ) (asks : TableAsks sheet states count before) (h : i < count)
-      (half : BlocksSoFar (builtRow sheet l) (rowsAt v head) i count before out) where
-    pub row-asks : RowAsks sheet states count i out
+  module _ (states : List ℕ) (count i : ℕ) (before out : List ℕ) (asks : TableAsks v sheet states count before) (h : i < count)
+      (half : BlocksSoFar (builtRow v sheet l) (rowsAt v head) i count before out) where
+    pub row-asks : RowAsks v sheet states count i out
     row-asks = record { asks = record { kept = asks .kept; there = rw (half .long) (asks .there) }; inside = h }
 
-    pub row-on : (after : List ℕ) → after ≡ written out (rowAt v head i) (builtRow sheet l i)
-        → BlocksSoFar (builtRow sheet l) (rowsAt v head) (i + 1) count before after
+    pub row-on : (after : List ℕ) → after ≡ written out (rowAt v head i) (builtRow v sheet l i)
+        → BlocksSoFar (builtRow v sheet l) (rowsAt v head) (i + 1) count before after
     row-on after e =
-        blocks-on (builtRow sheet l) (rowsAt v head) count before (rowLength v head) i out after (row-wide sheet l) half h
+        blocks-on (builtRow v sheet l) (rowsAt v head) count before (rowLength v head) i out after (row-wide v sheet l) half h
         (omega (arith, row-inside v head count i h, asks .there)) e
 
 -- One more part, written right after those from the first byte on.
@@ -175,46 +172,46 @@ next-part d bs cs out next at eo ea en =
     en ∙ rw (eo, place) (written-more d 0 bs zero-le cs)
 
 -- What stands before the rows, part by part.
-module _ (sheet : Sheet) (states : ℕ) where
+module _ (v : ℕ) (sheet : Sheet) (states : ℕ) where
   abbrev opening : List ℕ
-  opening = openingBytes (v sheet) (head sheet) (tableLength (v sheet) (head sheet) states - lengthBytes)
+  opening = openingBytes v (head v sheet) (tableLength v (head v sheet) states - lengthBytes)
 
   abbrev kinds : List ℕ
-  kinds = blocks (builtKind sheet) (m sheet)
+  kinds = blocks (builtKind v sheet) (m v sheet)
 
-  kinds-end : statesAt (v sheet) (head sheet) ≡ length (opening ++ kinds)
+  kinds-end : statesAt v (head v sheet) ≡ length (opening ++ kinds)
   kinds-end = simp (length-append, kinds-length) (omega arith)
 
-  front-end : rowsAt (v sheet) (head sheet) ≡ length (frontBytes sheet states)
+  front-end : rowsAt v (head v sheet) ≡ length (frontBytes v sheet states)
   front-end = rw (length-append, state-wide) (omega (arith, kinds-end))
 
-  module _ (v′ : ℕ) (h : Head) (len at : ℕ) (d opened named : List ℕ) (asks : FrontAsks sheet states d) (ev : v′ ≡ builtVersion sheet)
-      (eh : h ≡ sheet .head) (el : len ≡ rowAt v′ h states) (eo : opened ≡ written d 0 (openingBytes v′ h (len - lengthBytes)))
-      (en : named ≡ written opened kindsAt (blocks (builtKind sheet) (sheet .head .kinds))) (ea : at ≡ statesAt v′ h) where
+  module _ (h : Head) (len at : ℕ) (d opened named : List ℕ) (asks : FrontAsks v sheet states d)
+      (eh : h ≡ sheet .head) (el : len ≡ rowAt v h states) (eo : opened ≡ written d 0 (openingBytes v h (len - lengthBytes)))
+      (en : named ≡ written opened kindsAt (blocks (builtKind v sheet) (sheet .head .kinds))) (ea : at ≡ statesAt v h) where
     named-is : named ≡ written d 0 (opening ++ kinds)
-    named-is = next-part d opening kinds opened named kindsAt (rw (el, ev, eh) at eo) refl en
+    named-is = next-part d opening kinds opened named kindsAt (rw (el, eh) at eo) refl en
 
     -- There is room for N after the kinds, and it is written there.
-    pub states-room : at + stateLength v′ ≤ length named
+    pub states-room : at + stateLength v ≤ length named
     states-room =
         let room : 0 + length (opening ++ kinds) ≤ length d = omega (arith, kinds-end, asks .there) in
-        rw (ea, ev, eh, named-is, length-written d 0 (opening ++ kinds) room) (asks .there)
+        rw (ea, eh, named-is, length-written d 0 (opening ++ kinds) room) (asks .there)
 
-    pub front-written : (out : List ℕ) → out ≡ written named at (stateBytes v′ states) → out ≡ written d 0 (frontBytes sheet states)
-    front-written out e = next-part d (opening ++ kinds) (stateBytes (v sheet) states) named out (statesAt (v sheet) (head sheet)) named-is kinds-end (rw (ea, ev, eh) at e)
+    pub front-written : (out : List ℕ) → out ≡ written named at (stateBytes v states) → out ≡ written d 0 (frontBytes v sheet states)
+    front-written out e = next-part d (opening ++ kinds) (stateBytes v states) named out (statesAt v (head v sheet)) named-is kinds-end (rw (ea, eh) at e)
 
 -- That and the rows are the table.
-module _ (sheet : Sheet) (states : List ℕ) (count : ℕ) (kept : StatesKept sheet states count) where
+module _ (v : ℕ) (sheet : Sheet) (states : List ℕ) (count : ℕ) (kept : StatesKept sheet states count) where
   -- As many bytes follow the length as it says.
-  follow : tableLength (v sheet) (head sheet) count - lengthBytes ≡ length (builtBody sheet (l sheet))
+  follow : tableLength v (head v sheet) count - lengthBytes ≡ length (builtBody v sheet (l v sheet))
   unfolding tableOfStates
-  follow = omega (arith, rw (← kept .keeps .many) at (built-length sheet (l sheet)))
+  follow = omega (arith, rw (← kept .keeps .many) at (built-length v sheet (l v sheet)))
 
-  parts : frontBytes sheet count ++ blocks (builtRow sheet (l sheet)) count ≡ builtTable stateLimit sheet
+  parts : frontBytes v sheet count ++ blocks (builtRow v sheet (l v sheet)) count ≡ tableOfStates v sheet (builtStates stateLimit sheet)
   unfolding tableOfStates builtBody
   parts = rw (append-assoc, follow, kept .keeps .many)
 
-  pub table-written : (d front out : List ℕ) → front ≡ written d 0 (frontBytes sheet count)
-      → out ≡ written front (rowsAt (builtVersion sheet) (sheet .head)) (blocks (builtRow sheet (builtStates stateLimit sheet)) count)
-      → out ≡ written d 0 (builtTable stateLimit sheet)
-  table-written d front out ef er = rw (← parts) (next-part d (frontBytes sheet count) _ front out (rowsAt (v sheet) (head sheet)) ef (front-end sheet count) er)
+  pub table-written : (d front out : List ℕ) → front ≡ written d 0 (frontBytes v sheet count)
+      → out ≡ written front (rowsAt v (sheet .head)) (blocks (builtRow v sheet (builtStates stateLimit sheet)) count)
+      → out ≡ written d 0 (tableOfStates v sheet (builtStates stateLimit sheet))
+  table-written d front out ef er = rw (← parts) (next-part d (frontBytes v sheet count) _ front out (rowsAt v (head v sheet)) ef (front-end v sheet count) er)

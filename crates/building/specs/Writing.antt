@@ -16,7 +16,7 @@ use Rattle.convention.specs.Sheets.{sheetKind}
 use Rattle.convention.specs.Layout.{lengthBytes, statesAt, rowsAt, transitionLength, tableLength}
 use Rattle.convention.specs.Fields.{stateBytes}
 use Rattle.convention.specs.Promised.{SheetRead}
-use Rattle.convention.specs.Built.{builtKind, builtVersion, builtCell, builtStates, builtTable, statesNumber, builtOrRefused, buildWrites}
+use Rattle.convention.specs.Built.{builtKind, builtCell, builtStates, builtTable, statesNumber, builtOrRefused, buildWrites}
 use Rattle.building.specs.Holding.{MetRoom, Keeps, LeadAsks}
 
 -- A sheet that was read, and all its states kept, no more than have room.
@@ -38,38 +38,37 @@ pub record CellAsks (v : ℕ) (h : Head) (k : SheetKind) (states : List ℕ) (co
 
 -- Where it is kind k of a sheet, and the sheet's states are kept, the transition is that of the built table.
 pub record CellIs (v : ℕ) (h : Head) (kind : SheetKind) (a : Allocation) (states : List ℕ) (count : ℕ) (before : List ℕ) (at : ℕ) (after : List ℕ) : Type 0 where
-  pub cell : (sheet : Sheet) (k : ℕ) → v ≡ builtVersion sheet → h ≡ sheet .head → kind ≡ sheetKind sheet k
-      → Keeps sheet states count (builtStates stateLimit sheet) → after ≡ written before at (builtCell sheet (builtStates stateLimit sheet) a k)
+  pub cell : (sheet : Sheet) (k : ℕ) → h ≡ sheet .head → kind ≡ sheetKind sheet k → Keeps sheet states count (builtStates stateLimit sheet)
+      → after ≡ written before at (builtCell v sheet (builtStates stateLimit sheet) a k)
 
 -- All rows, in the room of a whole table.
-pub record TableAsks (sheet : Sheet) (states : List ℕ) (count : ℕ) (out : List ℕ) : Type 0 where
+pub record TableAsks (v : ℕ) (sheet : Sheet) (states : List ℕ) (count : ℕ) (out : List ℕ) : Type 0 where
   pub kept : StatesKept sheet states count
-  pub there : tableLength (builtVersion sheet) (sheet .head) count ≤ length out
+  pub there : tableLength v (sheet .head) count ≤ length out
 
 -- One of them.
-pub record RowAsks (sheet : Sheet) (states : List ℕ) (count i : ℕ) (out : List ℕ) : Type 0 where
-  pub asks : TableAsks sheet states count out
+pub record RowAsks (v : ℕ) (sheet : Sheet) (states : List ℕ) (count i : ℕ) (out : List ℕ) : Type 0 where
+  pub asks : TableAsks v sheet states count out
   pub inside : i < count
 
 -- The kinds.
-pub record KindsAsk (sheet : Sheet) (out : List ℕ) : Type 0 where
+pub record KindsAsk (v : ℕ) (sheet : Sheet) (out : List ℕ) : Type 0 where
   pub read : SheetRead sheet
-  pub there : statesAt (builtVersion sheet) (sheet .head) ≤ length out
+  pub there : statesAt v (sheet .head) ≤ length out
 
 -- What stands before the kinds: how many bytes follow, the version, the head.
 abbrev pub openingBytes : ℕ → Head → ℕ → List ℕ
 openingBytes v h follow = twoBytes follow ++ v ∷ h .registers ∷ h .width ∷ h .modulus ∷ h .kinds ∷ []
 
 -- What stands before the rows of so many states, in its room.
-abbrev pub frontBytes : Sheet → ℕ → List ℕ
-frontBytes sheet states =
-    let v = builtVersion sheet in
-    (openingBytes v (sheet .head) (tableLength v (sheet .head) states - lengthBytes) ++ blocks (builtKind sheet) (sheet .head .kinds)) ++ stateBytes v states
+abbrev pub frontBytes : ℕ → Sheet → ℕ → List ℕ
+frontBytes v sheet states =
+    (openingBytes v (sheet .head) (tableLength v (sheet .head) states - lengthBytes) ++ blocks (builtKind v sheet) (sheet .head .kinds)) ++ stateBytes v states
 
-pub record FrontAsks (sheet : Sheet) (states : ℕ) (out : List ℕ) : Type 0 where
+pub record FrontAsks (v : ℕ) (sheet : Sheet) (states : ℕ) (out : List ℕ) : Type 0 where
   pub read : SheetRead sheet
   pub room : states ≤ stateLimit
-  pub there : rowsAt (builtVersion sheet) (sheet .head) ≤ length out
+  pub there : rowsAt v (sheet .head) ≤ length out
 
 -- Half way through blocks that are written one after the other from byte `at` on: n of all are there.
 pub record BlocksSoFar (block : ℕ → List ℕ) (at n all : ℕ) (before out : List ℕ) : Type 0 where

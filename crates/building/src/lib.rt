@@ -40,7 +40,7 @@ ghost use Rattle.convention.specs.Fields.{shapeBytes, stateBytes};
 ghost use Rattle.convention.specs.Tables.{transitionBytes};
 ghost use Rattle.convention.specs.Promised.{SheetRead};
 ghost use Rattle.convention.specs.Explored.{met as metBefore};
-ghost use Rattle.convention.specs.Built.{allocation as allocationOf, allocations, fieldA, made, builtVersion, builtRow, builtKind, builtStates, builtTable, builtOrRefused, build as builds, buildMemory};
+ghost use Rattle.convention.specs.Built.{allocation as allocationOf, allocations, fieldA, made, builtVersion, builtRow, builtKind, builtStates, tableOfStates, builtOrRefused, build as builds, buildMemory};
 ghost use Rattle.building.specs.Reached.{firstAllocation};
 ghost use Rattle.building.specs.Holding.{MetHolds, LeadAsks, LeadIs, PassAsks, Passes, PassKindsAsks, ExploreAsks};
 ghost use Rattle.building.specs.Writing.{FieldAsks, CellAsks, CellIs, TableAsks, RowAsks, KindsAsk, openingBytes, FrontAsks, frontBytes, BuildingIs};
@@ -154,9 +154,9 @@ fn explore(sheet: Sheet, states: &mut [u32]) -> Met
     met
 }
 
-// The version of a sheet's table.
-fn built_version(sheet: Sheet) -> u8
-    ensures { λ r. ⌜ r ≡ builtVersion sheet ⌝ }
+// The version of a sheet's table of so many states.
+fn built_version(sheet: Sheet, states: usize) -> u8
+    ensures { λ r. ⌜ r ≡ builtVersion sheet states ⌝ }
 {
     1
 }
@@ -239,12 +239,11 @@ fn write_cell(
 }
 
 // Writes the row of state i, in the order of the kinds.
-fn write_row(sheet: Sheet, states: &[u32], count: usize, i: usize, out: &mut [u8])
-    requires { ⌜ RowAsks sheet (now states) count i (now out) ⌝ }
-    ensures { λ _. ⌜ now (out .exit) ≡ written (now (out .entry)) (rowAt (builtVersion sheet) (sheet .head) i) (builtRow sheet (builtStates stateLimit sheet) i) ⌝ }
+fn write_row(version: u8, sheet: Sheet, states: &[u32], count: usize, i: usize, out: &mut [u8])
+    requires { ⌜ RowAsks version sheet (now states) count i (now out) ⌝ }
+    ensures { λ _. ⌜ now (out .exit) ≡ written (now (out .entry)) (rowAt version (sheet .head) i) (builtRow version sheet (builtStates stateLimit sheet) i) ⌝ }
 {
     let from = memory::state_at(states, i);
-    let version = built_version(sheet);
     let head = sheet.head;
     let kinds = head.kinds;
     let mut k: u8 = 0;
@@ -257,23 +256,22 @@ fn write_row(sheet: Sheet, states: &[u32], count: usize, i: usize, out: &mut [u8
 }
 
 // Writes a row for each state, in the order of their numbers.
-fn write_rows(sheet: Sheet, states: &[u32], count: usize, out: &mut [u8])
-    requires { ⌜ TableAsks sheet (now states) count (now out) ⌝ }
-    ensures { λ _. ⌜ now (out .exit) ≡ written (now (out .entry)) (rowsAt (builtVersion sheet) (sheet .head)) (blocks (builtRow sheet (builtStates stateLimit sheet)) count) ⌝ }
+fn write_rows(version: u8, sheet: Sheet, states: &[u32], count: usize, out: &mut [u8])
+    requires { ⌜ TableAsks version sheet (now states) count (now out) ⌝ }
+    ensures { λ _. ⌜ now (out .exit) ≡ written (now (out .entry)) (rowsAt version (sheet .head)) (blocks (builtRow version sheet (builtStates stateLimit sheet)) count) ⌝ }
 {
     let mut i: usize = 0;
     while i < count {
-        write_row(sheet, states, count, i, out);
+        write_row(version, sheet, states, count, i, out);
         i += 1;
     }
 }
 
 // Writes the kinds' shapes, after the opening.
-fn write_kinds(sheet: Sheet, out: &mut [u8])
-    requires { ⌜ KindsAsk sheet (now out) ⌝ }
-    ensures { λ _. ⌜ now (out .exit) ≡ written (now (out .entry)) kindsAt (blocks (builtKind sheet) (sheet .head .kinds)) ⌝ }
+fn write_kinds(version: u8, sheet: Sheet, out: &mut [u8])
+    requires { ⌜ KindsAsk version sheet (now out) ⌝ }
+    ensures { λ _. ⌜ now (out .exit) ≡ written (now (out .entry)) kindsAt (blocks (builtKind version sheet) (sheet .head .kinds)) ⌝ }
 {
-    let version = built_version(sheet);
     let kinds = sheet.head.kinds;
     let mut k: u8 = 0;
     while k < kinds {
@@ -299,26 +297,25 @@ fn write_opening(version: u8, head: Head, follow: usize, out: &mut [u8])
 }
 
 // Writes what stands before the rows: the opening, the kinds and N.
-fn write_front(sheet: Sheet, states: usize, out: &mut [u8])
-    requires { ⌜ FrontAsks sheet states (now out) ⌝ }
-    ensures { λ _. ⌜ now (out .exit) ≡ written (now (out .entry)) 0 (frontBytes sheet states) ⌝ }
+fn write_front(version: u8, sheet: Sheet, states: usize, out: &mut [u8])
+    requires { ⌜ FrontAsks version sheet states (now out) ⌝ }
+    ensures { λ _. ⌜ now (out .exit) ≡ written (now (out .entry)) 0 (frontBytes version sheet states) ⌝ }
 {
-    let version = built_version(sheet);
     let head = sheet.head;
     let n = states as u16;
     let len = layout::row_at(version, head, n);
     write_opening(version, head, len - LENGTH_BYTES, out);
-    write_kinds(sheet, out);
+    write_kinds(version, sheet, out);
     write_state(version, n, out, layout::states_at(version, head));
 }
 
 // Writes the table of a sheet whose states were all met.
-fn write_table(sheet: Sheet, states: &[u32], count: usize, out: &mut [u8])
-    requires { ⌜ TableAsks sheet (now states) count (now out) ⌝ }
-    ensures { λ _. ⌜ now (out .exit) ≡ written (now (out .entry)) 0 (builtTable stateLimit sheet) ⌝ }
+fn write_table(version: u8, sheet: Sheet, states: &[u32], count: usize, out: &mut [u8])
+    requires { ⌜ TableAsks version sheet (now states) count (now out) ⌝ }
+    ensures { λ _. ⌜ now (out .exit) ≡ written (now (out .entry)) 0 (tableOfStates version sheet (builtStates stateLimit sheet)) ⌝ }
 {
-    write_front(sheet, count, out);
-    write_rows(sheet, states, count, out);
+    write_front(version, sheet, count, out);
+    write_rows(version, sheet, states, count, out);
 }
 
 // 'Building: 11, 12', of the states met and of the length of a table of as many states as were kept.
@@ -348,11 +345,12 @@ fn build_sheet(sheet: Sheet, out: &mut [u8]) -> BuildingAnswer
 {
     let mut states = [0u32; STATE_LIMIT];
     let met = explore(sheet, &mut states);
-    let len = layout::row_at(built_version(sheet), sheet.head, met.count as u16);
+    let version = built_version(sheet, met.count);
+    let len = layout::row_at(version, sheet.head, met.count as u16);
     let number = build_no(met, len, out.len());
     let answer = build_answer(number, met.count, len);
     if number == 0 {
-        write_table(sheet, &states, met.count, out);
+        write_table(version, sheet, &states, met.count, out);
     }
     answer
 }

@@ -69,46 +69,44 @@ abbrev pub builtTransition : (sheet : Sheet) → List (Entry (allocations sheet)
 builtTransition sheet l a k =
     made (sheet .head .modulus) (byRules sheet .place (fromAllocation a) k) (number (allocations sheet) l (allocations sheet .next a k))
 
--- 'one version byte, 1'.
-unfoldable pub builtVersion : Sheet → ℕ
-builtVersion sheet = 1
+-- The table of a sheet in version v, whose states are the entries of l. 'for each state a row of m transitions', in the order of numbers and of kinds.
+unfoldable pub builtCell : ℕ → (sheet : Sheet) → List (Entry (allocations sheet)) → Allocation → ℕ → List ℕ
+builtCell v sheet l a k = transitionBytes v (builtTransition sheet l a k)
 
--- The most bytes of a built table.
-abbrev pub builtMost : ℕ → ℕ
-builtMost limit = longestTable 1 limit
-
--- 'for each state a row of m transitions', in the order of numbers and of kinds.
-unfoldable pub builtCell : (sheet : Sheet) → List (Entry (allocations sheet)) → Allocation → ℕ → List ℕ
-builtCell sheet l a k = transitionBytes (builtVersion sheet) (builtTransition sheet l a k)
-
-unfoldable pub builtRow : (sheet : Sheet) → List (Entry (allocations sheet)) → ℕ → List ℕ
-builtRow sheet l i = blocks (builtCell sheet l (entry (allocations sheet) l i .node)) (sheet .head .kinds)
+unfoldable pub builtRow : ℕ → (sheet : Sheet) → List (Entry (allocations sheet)) → ℕ → List ℕ
+builtRow v sheet l i = blocks (builtCell v sheet l (entry (allocations sheet) l i .node)) (sheet .head .kinds)
 
 -- 'The kinds' sizes and alignments are copied.'
-abbrev pub builtKind : Sheet → ℕ → List ℕ
-builtKind sheet k = shapeBytes (builtVersion sheet) (sheetKind sheet k .shape)
+abbrev pub builtKind : ℕ → Sheet → ℕ → List ℕ
+builtKind v sheet k = shapeBytes v (sheetKind sheet k .shape)
 
 -- What follows the length: version, head, kinds, N, rows.
-unfoldable pub builtBody : (sheet : Sheet) → List (Entry (allocations sheet)) → List ℕ
-builtBody sheet l =
-    builtVersion sheet ∷ sheet .head .registers ∷ sheet .head .width ∷ sheet .head .modulus ∷ sheet .head .kinds
-    ∷ (blocks (builtKind sheet) (sheet .head .kinds) ++ (stateBytes (builtVersion sheet) (length l) ++ blocks (builtRow sheet l) (length l)))
+unfoldable pub builtBody : ℕ → (sheet : Sheet) → List (Entry (allocations sheet)) → List ℕ
+builtBody v sheet l =
+    v ∷ sheet .head .registers ∷ sheet .head .width ∷ sheet .head .modulus ∷ sheet .head .kinds
+    ∷ (blocks (builtKind v sheet) (sheet .head .kinds) ++ (stateBytes v (length l) ++ blocks (builtRow v sheet l) (length l)))
 
 -- 'two bytes, big-endian, the number of bytes that follow', and those.
 abbrev pub afterLength : List ℕ → List ℕ
 afterLength body = twoBytes (length body) ++ body
 
--- The table whose states are the entries of l.
-unfoldable pub tableOfStates : (sheet : Sheet) → List (Entry (allocations sheet)) → List ℕ
-tableOfStates sheet l = afterLength (builtBody sheet l)
+unfoldable pub tableOfStates : ℕ → (sheet : Sheet) → List (Entry (allocations sheet)) → List ℕ
+tableOfStates v sheet l = afterLength (builtBody v sheet l)
 
 -- 'Only states that some list of kinds reaches by the rules count': all of them, where there are no more than the limit.
 abbrev pub builtStates : ℕ → (sheet : Sheet) → List (Entry (allocations sheet))
 builtStates limit sheet = met (allocations sheet) limit
 
+-- 'one version byte, 1': that of a sheet's table of so many states; and the most bytes of a built table.
+unfoldable pub builtVersion : Sheet → ℕ → ℕ
+builtVersion sheet states = 1
+
+abbrev pub builtMost : ℕ → ℕ
+builtMost limit = longestTable 1 limit
+
 -- The built table.
 abbrev pub builtTable : ℕ → Sheet → List ℕ
-builtTable limit sheet = tableOfStates sheet (builtStates limit sheet)
+builtTable limit sheet = tableOfStates (builtVersion sheet (length (builtStates limit sheet))) sheet (builtStates limit sheet)
 
 -- Number 11: 'lists of the sheet's kinds reach more than 200 allocation states'. Going through as many as the limit meets one more.
 abbrev pub statesNumber : ℕ → Sheet → ℕ

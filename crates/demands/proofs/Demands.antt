@@ -111,7 +111,7 @@ module _ (s out : List ℕ) (n len : ℕ) (built : build stateLimit s (length ou
       record {
         long = rw same (sym (says .2));
         readable = rw same (built-readable stateLimit s (length out) n len built length-said);
-        states = rw same (built-states (sheetOf s) (builtStates stateLimit (sheetOf s)) ∙ sym (says .1));
+        states = rw same (built-states _ (sheetOf s) (builtStates stateLimit (sheetOf s)) ∙ sym (says .1));
         alike = rw same places-alike;
         untouched = bytes-after stateLimit s out n len built;
       }

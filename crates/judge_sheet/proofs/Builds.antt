@@ -63,7 +63,7 @@ module _ (s : List ℕ) where
         rw table-bytes
         (record {
           readable = built-readable stateLimit s (length before) n len known length-said;
-          rows = built-says stateLimit s (length before) n len known .1 ∙ sym (built-states (sheetOf s) (builtStates stateLimit (sheetOf s)));
-          head = rw (h, built-head (sheetOf s) (builtStates stateLimit (sheetOf s)));
+          rows = built-says stateLimit s (length before) n len known .1 ∙ sym (built-states _ (sheetOf s) (builtStates stateLimit (sheetOf s)));
+          head = rw (h, built-head _ (sheetOf s) (builtStates stateLimit (sheetOf s)));
           room = room;
         })

@@ -5,9 +5,6 @@ use borrow.Author.Needs.{needs}
 use Rattle.building.proofs.write_front.Statement.{statement}
 use Rattle.building.proofs.write_front.Tie as tie
 
-built-version-requires : tie.Need-built-version-requires
-built-version-requires c κs = search needs
-
 cast-n : tie.Need-cast-n
 cast-n c = search needs
 
@@ -27,19 +24,18 @@ states-at-requires : tie.Need-states-at-requires
 states-at-requires c κs = search needs
 
 write-state-requires : tie.Need-write-state-requires
-write-state-requires c κs = (c .before .before .before .before .before .before .before .before .before .before .before .before .before .before .pre .room, states-room _ _ _ _ _ _ _ _ _ (c .before .before .before .before .before .before .before .before .before .before .before .before .before .before .pre) (c .before .before .before .before .before .before .before .before .before .before .before .before .built-version .ensures) refl (c .before .before .before .before .before .before .before .before .before .before .row-at .ensures .0) (c .before .before .before .before .before .before .before .before .write-opening .ensures) (c .before .before .before .before .write-kinds .ensures) (c .states-at .ensures .0))
+write-state-requires c κs = (c .before .before .before .before .before .before .before .before .before .before .before .before .before .pre .room, states-room _ _ _ _ _ _ _ _ _ (c .before .before .before .before .before .before .before .before .before .before .before .before .before .pre) refl (c .before .before .before .before .before .before .before .before .before .before .row-at .ensures .0) (c .before .before .before .before .before .before .before .before .write-opening .ensures) (c .before .before .before .before .write-kinds .ensures) (c .states-at .ensures .0))
 
 same-length : tie.Need-same-length
 same-length c = search needs
 
 returns : tie.Need-returns
-returns c = front-written _ _ _ _ _ _ _ _ _ (c .before .before .before .before .before .before .before .before .before .before .before .before .before .before .before .before .before .pre) (c .before .before .before .before .before .before .before .before .before .before .before .before .before .before .before .built-version .ensures) refl (c .before .before .before .before .before .before .before .before .before .before .before .before .before .row-at .ensures .0) (c .before .before .before .before .before .before .before .before .before .before .before .write-opening .ensures) (c .before .before .before .before .before .before .before .write-kinds .ensures) (c .before .before .before .states-at .ensures .0) _ (c .before .before .write-state .ensures)
+returns c = front-written _ _ _ _ _ _ _ _ _ (c .before .before .before .before .before .before .before .before .before .before .before .before .before .before .before .before .pre) refl (c .before .before .before .before .before .before .before .before .before .before .before .before .before .row-at .ensures .0) (c .before .before .before .before .before .before .before .before .before .before .before .write-opening .ensures) (c .before .before .before .before .before .before .before .write-kinds .ensures) (c .before .before .before .states-at .ensures .0) _ (c .before .before .write-state .ensures)
 
 pub write-front-spec : {M : Type 1} → statement M
 write-front-spec =
     tie.close
     (tie.spec
-    built-version-requires
     cast-n
     row-at-requires
     sub-write-opening

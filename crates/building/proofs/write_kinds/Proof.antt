@@ -9,13 +9,10 @@ use Rattle.building.proofs.write_kinds.Statement.{statement}
 use Rattle.building.proofs.write_kinds.Tie as tie
 
 abbrev Inv-loop : tie.InvT-loop
-Inv-loop out₀ sheet version kinds k₀ out k = BlocksSoFar (builtKind sheet) kindsAt k kinds out₀ out
+Inv-loop version out₀ sheet kinds k₀ out k = BlocksSoFar (builtKind version sheet) kindsAt k kinds out₀ out
 
 abbrev μ-loop : tie.MeasureT-loop
-μ-loop out₀ sheet version kinds k₀ out k = kinds - k
-
-built-version-requires : tie.Need-built-version-requires Inv-loop μ-loop
-built-version-requires c κs = search needs
+μ-loop version out₀ sheet kinds k₀ out k = kinds - k
 
 loop-holds : tie.Need-loop-holds Inv-loop μ-loop
 loop-holds c = search (blocks-begin, needs)
@@ -56,7 +53,6 @@ write-kinds-spec =
     (tie.spec
     Inv-loop
     μ-loop
-    built-version-requires
     loop-holds
     cast-kind
     mul-kind

@@ -2,7 +2,7 @@
 use Prim.Native.Nat.{_-_}
 use Rattle.convention.specs.Numbers.{stateLimit}
 use Rattle.convention.specs.Layout.{rowAt}
-use Rattle.convention.specs.Built.{builtVersion, builtCell, builtStates}
+use Rattle.convention.specs.Built.{builtCell, builtStates}
 use Rattle.building.specs.Writing.{BlocksSoFar}
 use Rattle.building.proofs.Writing.{blocks-begin, cell-asks, cell-on, row-end}
 use borrow.Author.Needs.{needs}
@@ -10,16 +10,13 @@ use Rattle.building.proofs.write_row.Statement.{statement}
 use Rattle.building.proofs.write_row.Tie as tie
 
 abbrev Inv-loop : tie.InvT-loop
-Inv-loop states count i out₀ sheet from version head kinds k₀ out k = BlocksSoFar (builtCell sheet (builtStates stateLimit sheet) from) (rowAt (builtVersion sheet) (sheet .head) i) k kinds out₀ out
+Inv-loop version states count i out₀ sheet from head kinds k₀ out k = BlocksSoFar (builtCell version sheet (builtStates stateLimit sheet) from) (rowAt version (sheet .head) i) k kinds out₀ out
 
 abbrev μ-loop : tie.MeasureT-loop
-μ-loop states count i out₀ sheet from version head kinds k₀ out k = kinds - k
+μ-loop version states count i out₀ sheet from head kinds k₀ out k = kinds - k
 
 state-at-requires : tie.Need-state-at-requires Inv-loop μ-loop
 state-at-requires c κs = search needs
-
-built-version-requires : tie.Need-built-version-requires Inv-loop μ-loop
-built-version-requires c κs = search needs
 
 loop-holds : tie.Need-loop-holds Inv-loop μ-loop
 loop-holds c = search (blocks-begin, needs)
@@ -64,7 +61,6 @@ write-row-spec =
     Inv-loop
     μ-loop
     state-at-requires
-    built-version-requires
     loop-holds
     cast-kind
     mul-kind

@@ -2,7 +2,7 @@
 use Prim.Native.Nat.{_-_}
 use Rattle.convention.specs.Numbers.{stateLimit}
 use Rattle.convention.specs.Layout.{rowsAt}
-use Rattle.convention.specs.Built.{builtVersion, builtRow, builtStates}
+use Rattle.convention.specs.Built.{builtRow, builtStates}
 use Rattle.building.specs.Writing.{BlocksSoFar}
 use Rattle.building.proofs.Writing.{blocks-begin, row-asks, row-on, blocks-end}
 use borrow.Author.Needs.{needs}
@@ -10,10 +10,10 @@ use Rattle.building.proofs.write_rows.Statement.{statement}
 use Rattle.building.proofs.write_rows.Tie as tie
 
 abbrev Inv-loop : tie.InvT-loop
-Inv-loop sheet states count out₀ i₀ out i = BlocksSoFar (builtRow sheet (builtStates stateLimit sheet)) (rowsAt (builtVersion sheet) (sheet .head)) i count out₀ out
+Inv-loop version sheet states count out₀ i₀ out i = BlocksSoFar (builtRow version sheet (builtStates stateLimit sheet)) (rowsAt version (sheet .head)) i count out₀ out
 
 abbrev μ-loop : tie.MeasureT-loop
-μ-loop sheet states count out₀ i₀ out i = count - i
+μ-loop version sheet states count out₀ i₀ out i = count - i
 
 loop-holds : tie.Need-loop-holds Inv-loop μ-loop
 loop-holds c = search (blocks-begin, needs)
