@@ -18,11 +18,10 @@ use Rattle.convention.specs.Numbers.{stateLimit}
 use Rattle.convention.specs.Sheets.{sheetKind}
 use Rattle.convention.specs.Rules.{placeFault}
 use Rattle.convention.specs.Explored.{firstEntry, number, meet, metFrom, through, met as metBefore}
-use Rattle.convention.specs.Built.{allocations, builtStates}
+use Rattle.convention.specs.Built.{allocations, builtStates, firstAllocation}
 use Rattle.convention.proofs.Runs.{either}
 use Rattle.convention.proofs.Numbering.{met-grows, whole}
 use Rattle.building.specs.declared.memory.Met.{Met}
-use Rattle.building.specs.Reached.{firstAllocation}
 use Rattle.building.specs.Holding.{MetHolds, StateAt, Meets, LeadIs, Passes, PassKindsAsks, PassingKinds, ExploreAsks, Exploring}
 use Rattle.building.proofs.Leading.{lead-of}
 use Rattle.building.proofs.Keeping.{nothing-kept}

@@ -5,19 +5,15 @@ use mathlib.Core.List.{List}
 use lib.ListN.{length, getD}
 use Rattle.convention.specs.declared.Sheet.{Sheet}
 use Rattle.convention.specs.declared.Allocation.{Allocation}
-use Rattle.convention.specs.Rules.{noRegisters, byRules}
+use Rattle.convention.specs.Rules.{byRules}
 use Rattle.convention.specs.Lists.{faultFrom, stateFrom, KindsBelow}
-use Rattle.convention.specs.Built.{allocation}
+use Rattle.convention.specs.Built.{allocation, firstAllocation}
 
 -- 'states that some list of kinds reaches by the rules': every argument of the list has a place, and after the last the rules stand in the state.
 pub record Reaches (sheet : Sheet) (ks : List ℕ) (a : Allocation) : Type 0 where
   pub known : KindsBelow (sheet .head .kinds) ks
   pub placed : faultFrom (byRules sheet) (byRules sheet .begin) ks ≡ 0
   pub stands : allocation (sheet .head .modulus) (stateFrom (byRules sheet) (byRules sheet .begin) ks) ≡ a
-
--- 'the empty set with 0'.
-abbrev pub firstAllocation : Allocation
-firstAllocation = record { unavailable = noRegisters; remainder = 0 }
 
 -- 'lists of the sheet's kinds reach more than 200 allocation states': there are more than the limit that are all different and each reached.
 pub record ReachMore (limit : ℕ) (sheet : Sheet) : Type 0 where

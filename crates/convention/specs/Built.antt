@@ -40,12 +40,16 @@ sameFlags (x ∷ xs) (y ∷ ys) = Bool·beq x y && sameFlags xs ys
 abbrev pub sameAllocation : Allocation → Allocation → Bool
 sameAllocation a b = eqb (a .remainder) (b .remainder) && sameFlags (a .unavailable) (b .unavailable)
 
--- 'State 0 is the empty set with 0.' A kind leads on where the rules find a place: 'no-place steps lead nowhere'.
+-- 'State 0 is the empty set with 0.'
+abbrev pub firstAllocation : Allocation
+firstAllocation = record { unavailable = noRegisters; remainder = 0 }
+
+-- A kind leads on where the rules find a place: 'no-place steps lead nowhere'.
 abbrev pub allocations : Sheet → Automaton
 allocations sheet = record {
   Node = Allocation;
   same = sameAllocation;
-  start = record { unavailable = noRegisters; remainder = 0 };
+  start = firstAllocation;
   kinds = sheet .head .kinds;
   goes = λ a k. eqb (byRules sheet .fault (fromAllocation a) k) 0;
   next = λ a k. allocation (sheet .head .modulus) (byRules sheet .after (fromAllocation a) k);

@@ -94,11 +94,15 @@ rulesAfter w kind s = record {
 abbrev pub noRegisters : List Bool
 noRegisters = replicate 16 false
 
--- 'Begin with every register available and p = 0. For each argument in turn: ..'
+-- 'Begin with every register available and p = 0.'
+abbrev pub rulesBegin : ByRules
+rulesBegin = record { unavailable = noRegisters; p = record { 0 = 0 } }
+
+-- 'For each argument in turn: ..'
 abbrev pub byRules : Sheet → Steps
 byRules sheet = record {
   State = ByRules;
-  begin = record { unavailable = noRegisters; p = record { 0 = 0 } };
+  begin = rulesBegin;
   place = λ s k. rulesPlace (sheet .head .width) (sheetKind sheet k) s;
   fault = λ s k. placeFault (rulesPlace (sheet .head .width) (sheetKind sheet k) s);
   after = λ s k. rulesAfter (sheet .head .width) (sheetKind sheet k) s;

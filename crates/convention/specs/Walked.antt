@@ -45,11 +45,15 @@ tableAfter h x s = record {
   p = placeP (tablePlace h x (s .p .0)) (s .p);
 }
 
--- 'Begin in state 0 with p = 0.' t is the table's bytes.
+-- 'Begin in state 0 with p = 0.'
+abbrev pub walkBegin : ByTable
+walkBegin = record { state = 0; given = noRegisters; p = record { 0 = 0 } }
+
+-- The steps of a table; t is its bytes.
 abbrev pub byTable : Table → List ℕ → Steps
 byTable table t = record {
   State = ByTable;
-  begin = record { state = 0; given = noRegisters; p = record { 0 = 0 } };
+  begin = walkBegin;
   place = λ s k. tablePlace (table .head) (transition table t (s .state) k) (s .p .0);
   fault = λ s k. tableFault (table .head) (tableKind table k) (transition table t (s .state) k) (s .given);
   after = λ s k. tableAfter (table .head) (transition table t (s .state) k) s;

@@ -1,37 +1,51 @@
 // Where the fields of a sheet and a table stand, and how long their parts are: each a definition of
 // crates/convention/specs/Layout.antt, and once in code here. What depends on a file's version takes it as an argument.
+// Beside the definition each function promises a bound, so that sums fit: a length can be said in a byte, and what follows from that.
 use convention::Head;
 ghost use mathlib.Core.Path.{_≡_};
 ghost use Prim.Native.Nat.{_*_, _≤_, _<_, _^_};
 ghost use Rattle.convention.specs.Layout.{shapeLength, flagsAt, triesAt, startsAt, tableKindAt, stateLength, statesAt, rowsAt, transitionLength, rowLength, rowAt, transitionAt};
 
-// `lengthAt` and `lengthBytes`.
+// `lengthAt`.
 pub const LENGTH_AT: usize = 0;
 
+// `lengthBytes`.
 pub const LENGTH_BYTES: usize = 2;
+
 // `versionAt`.
 pub const VERSION_AT: usize = 2;
-// `registersAt`, `widthAt`, `modulusAt`, `kindsCountAt`.
+
+// `registersAt`.
 pub const REGISTERS_AT: usize = 3;
 
+// `widthAt`.
 pub const WIDTH_AT: usize = 4;
 
+// `modulusAt`.
 pub const MODULUS_AT: usize = 5;
 
+// `kindsCountAt`.
 pub const KINDS_COUNT_AT: usize = 6;
+
 // `kindsAt`.
 pub const KINDS_AT: usize = 7;
-// `sizeAt` and `alignmentAt`.
+
+// `sizeAt`.
 pub const SIZE_AT: usize = 0;
 
+// `alignmentAt`.
 pub const ALIGNMENT_AT: usize = 1;
-// `formAt`, `aAt`, `bAt` and `nextAt`.
+
+// `formAt`.
 pub const FORM_AT: usize = 0;
 
+// `aAt`.
 pub const A_AT: usize = 1;
 
+// `bAt`.
 pub const B_AT: usize = 2;
 
+// `nextAt`.
 pub const NEXT_AT: usize = 3;
 
 // How many bytes a kind's shape takes.

@@ -15,13 +15,13 @@ use Rattle.convention.specs.declared.JudgingAnswer.the-variants.{Clean, Fault}
 use Rattle.convention.specs.Numbers.{stateLimit, reading}
 use Rattle.convention.specs.Tables.{tableNo, tableOf, readTable}
 use Rattle.convention.specs.Lists.{faultFrom}
-use Rattle.convention.specs.Walked.{byTable}
+use Rattle.convention.specs.Walked.{byTable, walkBegin}
 use Rattle.convention.specs.Judged.{FaultyList, FirstFaulty, listFault, judgeNo, Judges}
 use Rattle.convention.specs.Promised.{TableRead}
 use Rattle.convention.proofs.Numbers.{or-here}
 use Rattle.convention.proofs.Lists.{below-known}
 use Rattle.convention.proofs.Tables.{table-read, table-right, table-is, table-refused, table-wrong}
-use Rattle.walking.specs.TableSteps.{KnownAsks, walkBegin}
+use Rattle.walking.specs.TableSteps.{KnownAsks}
 use Rattle.judging.specs.Watched.{nodes, LeastBelow}
 use Rattle.judging.specs.Memory.{bestEnd, listAt}
 use Rattle.judging.specs.Found.{FindAsks, BestIs, JudgeAsks}

@@ -25,7 +25,7 @@ use Rattle.convention.proofs.Rules.{place-cases}
 use Rattle.stepping.specs.Ends.{stackEnd}
 use Rattle.stepping.proofs.Runs.{length-mark}
 use Rattle.stepping.proofs.Accepted.{Accepted, accepted}
-use Rattle.stepping.proofs.Apart.{FreeIn, FromP, StepGives, mark-stays, place-length, apart}
+use Rattle.stepping.proofs.Apart.{FreeIn, FromP, StepGives, mark-stays, place-length, apart, p-most}
 use Rattle.convention.specs.Shapes.{stepMost, pMost}
 use Rattle.placing.proofs.Search.{skipped-free}
 use Rattle.placing.proofs.Steps.{aligned, run-ends, stack-end, p-grows}
@@ -88,15 +88,10 @@ module _ (sheet : Sheet) (read : SheetRead sheet) where
         marks = closed-stays (isClosing kind) _ _ _;
         above = place-above w kind s;
         moves = refl;
+        most = p-grows (sheet .head) kind s (read .head) (read .kind k h);
       }
 
-  -- From a state on, p and every place's stack bytes end within `stepMost` for each argument.
-  p-low : (s : ByRules) (ks : List ℕ) → KindsBelow (sheet .head .kinds) ks → stateFrom (byRules sheet) s ks .p .0 ≤ s .p .0 + stepMost * length ks
-  unfolding stateFrom KindsBelow
-  p-low s [] below = omega arith
-  p-low s (k ∷ ks) below =
-      omega (arith, p-grows (sheet .head) (sheetKind sheet k) s (read .head) (read .kind k (below .0)), p-low (byRules sheet .after s k) ks (below .1))
-
+  -- From a state on, every place's stack bytes end within `stepMost` for each argument.
   places-low : (s : ByRules) (ks : List ℕ) → KindsBelow (sheet .head .kinds) ks → (i : ℕ)
       → stackEnd (getD (placesFrom (byRules sheet) s ks) i Nowhere) ≤ s .p .0 + stepMost * length ks
   unfolding placesFrom KindsBelow
@@ -129,8 +124,13 @@ module _ (sheet : Sheet) (read : SheetRead sheet) where
 
     -- Of a list that a call places, the final p is at most 31,600, and so is where any stack bytes end.
     module _ (short : length ks ≤ argumentLimit) where
-      pub final-most : stateFrom (byRules sheet) (byRules sheet .begin) ks .p .0 ≤ pMost argumentLimit
-      final-most = omega (arith, p-low (byRules sheet .begin) ks below)
+      pub final-most : faultFrom (byRules sheet) (byRules sheet .begin) ks ≡ 0 → stateFrom (byRules sheet) (byRules sheet .begin) ks .p .0 ≤ pMost argumentLimit
+      final-most clean =
+          omega (
+            arith,
+            p-most (byRules sheet) (λ s. s .unavailable) (λ s. length (s .unavailable) ≡ 16) (sheet .head .kinds)
+                (λ s k good h f. rules-give s k good h) (byRules sheet .begin) ks refl below clean,
+          )
 
       pub offset-most : (i : ℕ) (offset : Offset) (count : ℕ) → getD (places sheet ks) i Nowhere ≡ Stack offset count → offset .0 + count ≤ pMost argumentLimit
       offset-most i offset count e =
@@ -150,7 +150,7 @@ module _ (s ks : List ℕ) (room n : ℕ) (p : Offset) (placed : placeByRules ar
 
   -- The p that is answered is at most 31,600.
   pub answer-most : p .0 ≤ pMost argumentLimit
-  answer-most = rw (← means .final) (final-most (sheetOf s) (sheet-read s (means .read)) ks (means .below) (means .short))
+  answer-most = rw (← means .final) (final-most (sheetOf s) (sheet-read s (means .read)) ks (means .below) (means .short) (means .clean))
 
   -- No two arguments share anything.
   pub answer-apart : (i j : ℕ) → i < j → j < length ks

@@ -11,12 +11,12 @@ use Rattle.convention.specs.declared.ByRules.{ByRules}
 use Rattle.convention.specs.Bytes.{written}
 use Rattle.convention.specs.Sheets.{sheetKind}
 use Rattle.convention.specs.Lists.{recordLength, recordOf}
-use Rattle.convention.specs.Rules.{placeFault, byRules}
+use Rattle.convention.specs.Rules.{placeFault, byRules, rulesBegin}
 use Rattle.convention.proofs.Lists.{known}
 use Rattle.stepping.specs.Walks.{WalkIs, recordsBefore}
 use Rattle.convention.specs.Shapes.{stepMost}
 use Rattle.stepping.proofs.Walks.{walk-begin, walk-on, walk-hit, walk-end, write-begin, write-on, write-end}
-use Rattle.placing.specs.RulesSteps.{RulesStepAsks, RulesStepIs, RulesListAsks, rulesBegin, RulesStanding, RulesWriting}
+use Rattle.placing.specs.RulesSteps.{RulesStepAsks, RulesStepIs, RulesListAsks, RulesStanding, RulesWriting}
 use Rattle.placing.proofs.Steps.{p-grows}
 
 module _ (sheet : Sheet) (ks : List ℕ) (i : ℕ) (asks : RulesListAsks sheet ks) (h : i < length ks) where

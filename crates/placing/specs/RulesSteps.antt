@@ -11,7 +11,7 @@ use Rattle.convention.specs.declared.ByRules.{ByRules}
 use Rattle.convention.specs.Numbers.{argumentLimit}
 use Rattle.convention.specs.Promised.{HeadRead, SheetKindRead, SheetRead}
 use Rattle.convention.specs.Lists.{recordLength}
-use Rattle.convention.specs.Rules.{skippedOf, rulesPlace, rulesAfter, noRegisters, byRules}
+use Rattle.convention.specs.Rules.{skippedOf, rulesPlace, rulesAfter, byRules}
 use Rattle.stepping.specs.Walks.{WalkRest, WriteRest, Listed}
 use Rattle.convention.specs.Shapes.{stepMost}
 
@@ -56,10 +56,6 @@ pub record RulesListAsks (sheet : Sheet) (ks : List ℕ) : Type 0 where
 pub record RoomAsks (sheet : Sheet) (ks out : List ℕ) : Type 0 where
   pub asked : RulesListAsks sheet ks
   pub room : recordLength * length ks ≤ length out
-
--- Where placing begins: every register available, and p = 0.
-abbrev pub rulesBegin : ByRules
-rulesBegin = record { unavailable = noRegisters; p = record { 0 = 0 } }
 
 -- Half way through a list, before argument i: what is left answers the whole, and p is no further than i arguments can take it.
 pub record RulesStanding (sheet : Sheet) (ks : List ℕ) (s : ByRules) (i : ℕ) : Type 0 where

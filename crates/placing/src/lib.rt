@@ -15,9 +15,9 @@ ghost use mathlib.Core.Path.{_≡_};
 ghost use lib.ListN.{length, take};
 ghost use Rattle.convention.specs.Numbers.{argumentLimit};
 ghost use Rattle.convention.specs.Promised.{SheetRead};
-ghost use Rattle.convention.specs.Rules.{skippedBefore, markRuns, startsOf, rulesPlace, rulesAfter, byRules, placeByRules, rulesMemory};
+ghost use Rattle.convention.specs.Rules.{skippedBefore, markRuns, startsOf, rulesPlace, rulesAfter, byRules, placeByRules, rulesMemory, rulesBegin};
 ghost use Rattle.stepping.specs.Walks.{WalkIs, recordsBefore, PlacingIs};
-ghost use Rattle.placing.specs.RulesSteps.{RunsWithin, RunsTried, RulesStepAsks, Searched, PlaceFound, RulesStepIs, RulesListAsks, RoomAsks, rulesBegin};
+ghost use Rattle.placing.specs.RulesSteps.{RunsWithin, RunsTried, RulesStepAsks, Searched, PlaceFound, RulesStepIs, RulesListAsks, RoomAsks};
 
 // How many starts of a kind that needs `count` registers are tried and not taken: those before the first whose run is
 // wholly available, or all of them.

@@ -1,5 +1,6 @@
--- Two arguments of one list share no register and no stack byte, over any way of placing that gives out only what is free and marks what it gives out.
-use Prim.Native.Nat.{ℕ, zero, suc, _≤_, _<_}
+-- Two arguments of one list share no register and no stack byte, and p stays small, over any way of placing that gives out only what is free and marks what
+-- it gives out.
+use Prim.Native.Nat.{ℕ, zero, suc, _+_, _*_, _≤_, _<_}
 use mathlib.Core.Path.{_≡_, refl}
 use mathlib.Core.Logic.{inl, inr}
 use mathlib.Core.Bool.{Bool, true, false}
@@ -10,7 +11,8 @@ use lib.ListN.{length, getD, set}
 use Rattle.convention.specs.declared.Offset.{Offset}
 use Rattle.convention.specs.declared.Placement.{Placement}
 use Rattle.convention.specs.declared.Placement.the-variants.{Registers, Stack, Nowhere}
-use Rattle.convention.specs.Lists.{Steps, faultFrom, placesFrom, KindsBelow}
+use Rattle.convention.specs.Shapes.{stepMost}
+use Rattle.convention.specs.Lists.{Steps, faultFrom, stateFrom, placesFrom, KindsBelow}
 use Rattle.convention.specs.Rules.{freeRun, markRun, placeTaken, placeP}
 use Rattle.convention.specs.WellPlaced.{HasRegister, HasByte, Share}
 use Rattle.convention.proofs.Numbers.{or-zero}
@@ -29,7 +31,7 @@ FromP p (Registers first count) = Unit {0}
 FromP p (Stack offset count) = p .0 ≤ offset .0
 FromP p Nowhere = Unit {0}
 
--- What a step gives out was free, and is marked from then on; `taken` says which registers a state has marked, and Good is what every state keeps.
+-- What a step gives out was free, and is marked from then on, and p moves by no more than a step can take; `taken` says which registers a state has marked, and Good is what every state keeps.
 pub record StepGives (M : Steps) (taken : M .State → List Bool) (Good : M .State → Type 0) (s : M .State) (k : ℕ) : Type 0 where
   pub keeps : Good (M .after s k)
   pub within : runEnd (M .place s k) ≤ length (taken s)
@@ -37,6 +39,7 @@ pub record StepGives (M : Steps) (taken : M .State → List Bool) (Good : M .Sta
   pub marks : (r : ℕ) → getD (placeTaken (M .place s k) (taken s)) r false ≡ true → getD (taken (M .after s k)) r false ≡ true
   pub above : FromP (M .p s) (M .place s k)
   pub moves : M .p (M .after s k) ≡ placeP (M .place s k) (M .p s)
+  pub most : M .p (M .after s k) .0 ≤ M .p s .0 + stepMost
 
 -- A register stays taken where others are marked.
 set-stays : (taken : List Bool) (i r : ℕ) → getD taken r false ≡ true → getD (set taken i true) r false ≡ true
@@ -148,3 +151,12 @@ module _ (M : Steps) (taken : M .State → List Bool) (Good : M .State → Type 
   apart s (k ∷ ks) good below e (suc i) (suc j) l h =
       let both = or-zero (M .fault s k) _ e in
       apart (M .after s k) ks (step s k good (below .0) (both .0) .keeps) (below .1) (both .1) i j (le-of-suc-le-suc l) (le-of-suc-le-suc h)
+
+  -- A list without a fault takes p no further than each argument can.
+  pub p-most : (s : M .State) (ks : List ℕ) → Good s → KindsBelow m ks → faultFrom M s ks ≡ 0 → M .p (stateFrom M s ks) .0 ≤ M .p s .0 + stepMost * length ks
+  unfolding faultFrom stateFrom KindsBelow
+  p-most s [] good below e = omega arith
+  p-most s (k ∷ ks) good below e =
+      let both = or-zero (M .fault s k) _ e in
+      let gives = step s k good (below .0) (both .0) in
+      omega (arith, gives .most, p-most (M .after s k) ks (gives .keeps) (below .1) (both .1))

@@ -13,11 +13,11 @@ use Rattle.convention.specs.declared.Shape.{Shape}
 use Rattle.convention.specs.Rules.{noRegisters}
 use Rattle.convention.specs.Lists.{faultFrom}
 use Rattle.convention.specs.Tables.{tableKind, transition}
-use Rattle.convention.specs.Walked.{tableFault, byTable}
+use Rattle.convention.specs.Walked.{tableFault, byTable, walkBegin}
 use Rattle.convention.proofs.Lists.{known, fault-turn, fault-hit, fault-end}
 use Rattle.table.specs.Within.{InTable}
 use Rattle.convention.proofs.Walked.{step-next, step-gives, fault-any-p}
-use Rattle.walking.specs.TableSteps.{FaultAsks, KnownAsks, Faulting, givenAfter, walkBegin}
+use Rattle.walking.specs.TableSteps.{FaultAsks, KnownAsks, Faulting, givenAfter}
 use Rattle.walking.proofs.Steps.{fault-asks, give-asks, state-inside}
 
 module _ (table : Table) (t ks : List ℕ) (asks : KnownAsks table t ks) where

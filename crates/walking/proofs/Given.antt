@@ -29,7 +29,7 @@ use Rattle.convention.proofs.Tables.{table-read}
 use Rattle.convention.proofs.Walked.{step-cases, registers-clean, stack-clean}
 use Rattle.convention.specs.Shapes.{stepMost, pMost}
 use Rattle.stepping.proofs.Accepted.{accepted}
-use Rattle.stepping.proofs.Apart.{FreeIn, FromP, StepGives, place-length, apart}
+use Rattle.stepping.proofs.Apart.{FreeIn, FromP, StepGives, place-length, apart, p-most}
 use Rattle.walking.proofs.Steps.{reach, step-ends}
 
 -- A step without a fault: its place is right, its registers are free, and its stack bytes begin at p or after it.
@@ -94,15 +94,13 @@ module _ (limit : ℕ) (table : Table) (t : List ℕ) (read : TableRead limit ta
       marks = λ r m. m;
       above = step-from (table .head) (here s k) (s .p);
       moves = refl;
+      most = reach (table .head) (tableKind table k) (here s k) s (read .head) (read .kind k below) e;
     }
 
     here-right : Right (table .head) (tableKind table k) (byTable table t .place s k)
     here-right =
         step-right (table .head) (tableKind table k) (here s k) (s .given) e (known-divides limit table t read k below)
         (known-run limit table t read k below (s .state) (good .known)) (known-residue limit table t read k below (s .state) (good .known)) (s .p .0)
-
-    here-reach : byTable table t .after s k .p .0 ≤ s .p .0 + stepMost
-    here-reach = reach (table .head) (tableKind table k) (here s k) s (read .head) (read .kind k below) e
 
   each-right : (s : ByTable) (ks : List ℕ) → Walking table s → KindsBelow (table .head .kinds) ks → faultFrom (byTable table t) s ks ≡ 0
       → (i : ℕ) → i < length ks → Right (table .head) (tableKind table (getD ks i 0)) (getD (placesFrom (byTable table t) s ks) i Nowhere)
@@ -112,18 +110,6 @@ module _ (limit : ℕ) (table : Table) (t : List ℕ) (read : TableRead limit ta
   each-right s (k ∷ ks) good below e (suc i) h =
       let both = or-zero (byTable table t .fault s k) _ e in
       each-right _ ks (step-walking s k good (below .0)) (below .1) (both .1) i (le-of-suc-le-suc h)
-
-  p-low : (s : ByTable) (ks : List ℕ) → Walking table s → KindsBelow (table .head .kinds) ks → faultFrom (byTable table t) s ks ≡ 0
-      → stateFrom (byTable table t) s ks .p .0 ≤ s .p .0 + stepMost * length ks
-  unfolding KindsBelow faultFrom stateFrom
-  p-low s [] good below e = omega arith
-  p-low s (k ∷ ks) good below e =
-      let both = or-zero (byTable table t .fault s k) _ e in
-      omega (
-        arith,
-        here-reach s k good (below .0) (both .0),
-        p-low (byTable table t .after s k) ks (step-walking s k good (below .0)) (below .1) (both .1),
-      )
 
   -- A list of known kinds without a faulty step.
   module _ (ks : List ℕ) (below : KindsBelow (table .head .kinds) ks) (e : faultFrom (byTable table t) (byTable table t .begin) ks ≡ 0) where
@@ -142,7 +128,12 @@ module _ (limit : ℕ) (table : Table) (t : List ℕ) (read : TableRead limit ta
 
     -- The final p.
     pub table-final : stateFrom (byTable table t) (byTable table t .begin) ks .p .0 ≤ stepMost * length ks
-    table-final = omega (arith, p-low (byTable table t .begin) ks begin-walking below e)
+    table-final =
+        omega (
+          arith,
+          p-most (byTable table t) (λ s. s .given) (Walking table) (table .head .kinds) (λ s k good h f. table-gives s k good h f)
+              (byTable table t .begin) ks begin-walking below e,
+        )
 
 -- So of a list that a call has placed: the p that is answered is at most 31,600, which its four bytes hold.
 pub answer-most : (t ks : List ℕ) (room n : ℕ) (p : Offset) → placeByTable stateLimit argumentLimit t ks room ≡ Placed n p → p .0 ≤ pMost argumentLimit

@@ -12,12 +12,12 @@ use Rattle.convention.specs.declared.Offset.{Offset}
 use Rattle.convention.specs.Lists.{recordLength, recordOf}
 use Rattle.convention.specs.Bytes.{written}
 use Rattle.convention.specs.Tables.{tableKind, transition}
-use Rattle.convention.specs.Walked.{byTable}
+use Rattle.convention.specs.Walked.{byTable, walkBegin}
 use Rattle.convention.proofs.Lists.{known, turn-free}
 use Rattle.table.specs.Within.{InTable}
 use Rattle.stepping.specs.Walks.{WalkIs, recordsBefore}
 use Rattle.stepping.proofs.Walks.{walk-begin, walk-on, walk-hit, walk-end, write-begin, write-on, write-end}
-use Rattle.walking.specs.TableSteps.{ArgumentAsks, CheckAsks, CheckIs, ArgumentIs, WalkAsks, WriteAsks, TableStanding, TableWriting, walkBegin}
+use Rattle.walking.specs.TableSteps.{ArgumentAsks, CheckAsks, CheckIs, ArgumentIs, WalkAsks, WriteAsks, TableStanding, TableWriting}
 use Rattle.walking.proofs.Steps.{check-asks, next-state, next-reach}
 
 module _ (table : Table) (t ks : List ℕ) (asks : WalkAsks table t ks) where

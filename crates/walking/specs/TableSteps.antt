@@ -12,9 +12,9 @@ use Rattle.convention.specs.declared.ByTable.{ByTable}
 use Rattle.convention.specs.declared.Placement.{Placement}
 use Rattle.convention.specs.declared.Table.{Table}
 use Rattle.convention.specs.Numbers.{stateLimit, argumentLimit}
-use Rattle.convention.specs.Rules.{markRun, noRegisters}
+use Rattle.convention.specs.Rules.{markRun}
 use Rattle.convention.specs.Lists.{unknownAt, faultFrom, recordLength}
-use Rattle.convention.specs.Walked.{tablePlace, tableFault, tableAfter, byTable}
+use Rattle.convention.specs.Walked.{tablePlace, tableFault, tableAfter, byTable, walkBegin}
 use Rattle.convention.specs.Promised.{TableRead}
 use Rattle.table.specs.Within.{InTable}
 use Rattle.stepping.specs.Walks.{WalkRest, WriteRest, Listed}
@@ -46,10 +46,6 @@ pub record CheckAsks (h : Head) (shape : Shape) (x : Transition) (s : ByTable) :
 pub record CheckIs (h : Head) (shape : Shape) (x : Transition) (s : ByTable) (fault : ℕ) (next : ByTable) : Type 0 where
   pub found : fault ≡ tableFault h shape x (s .given)
   pub after : fault ≡ 0 → next ≡ tableAfter h x s
-
--- Where the walk begins: state 0, no register given, p = 0.
-abbrev pub walkBegin : ByTable
-walkBegin = record { state = 0; given = noRegisters; p = record { 0 = 0 } }
 
 -- One argument: a state and a kind of a table that was read, and a p that no list of a call goes beyond.
 pub record ArgumentAsks (table : Table) (t : List ℕ) (s : ByTable) (k : ℕ) : Type 0 where

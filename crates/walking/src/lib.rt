@@ -18,9 +18,9 @@ ghost use lib.ListN.{length};
 ghost use Rattle.convention.specs.Numbers.{stateLimit, argumentLimit};
 ghost use Rattle.convention.specs.Promised.{TableRead};
 ghost use Rattle.convention.specs.Lists.{faultFrom};
-ghost use Rattle.convention.specs.Walked.{registersFault, stackFault, tableFault, tablePlace, byTable, placeByTable, tableMemory};
+ghost use Rattle.convention.specs.Walked.{registersFault, stackFault, tableFault, tablePlace, byTable, placeByTable, tableMemory, walkBegin};
 ghost use Rattle.stepping.specs.Walks.{WalkIs, PlacingIs, recordsBefore};
-ghost use Rattle.walking.specs.TableSteps.{FaultAsks, PlaceAsks, TableStepIs, ArgumentAsks, CheckAsks, CheckIs, ArgumentIs, KnownAsks, WalkAsks, WriteAsks, walkBegin, givenAfter};
+ghost use Rattle.walking.specs.TableSteps.{FaultAsks, PlaceAsks, TableStepIs, ArgumentAsks, CheckAsks, CheckIs, ArgumentIs, KnownAsks, WalkAsks, WriteAsks, givenAfter};
 
 // Faults 2 and 3 of a step that gives registers.
 fn registers_fault(head: Head, shape: Shape, x: Transition, given: [bool; 16]) -> u8
