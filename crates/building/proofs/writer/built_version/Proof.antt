@@ -1,8 +1,8 @@
 -- `built_version`: the definition itself.
 use Rattle.convention.specs.Built.{builtVersion}
 use borrow.Author.Needs.{needs}
-use Rattle.building.proofs.built_version.Statement.{statement}
-use Rattle.building.proofs.built_version.Tie as tie
+use Rattle.building.proofs.writer.built_version.Statement.{statement}
+use Rattle.building.proofs.writer.built_version.Tie as tie
 
 returns : tie.Need-returns
 unfolding builtVersion

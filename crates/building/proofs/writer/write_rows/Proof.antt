@@ -6,8 +6,8 @@ use Rattle.convention.specs.Built.{builtRow, builtStates}
 use Rattle.building.specs.Writing.{BlocksSoFar}
 use Rattle.building.proofs.Writing.{blocks-begin, row-asks, row-on, blocks-end}
 use borrow.Author.Needs.{needs}
-use Rattle.building.proofs.write_rows.Statement.{statement}
-use Rattle.building.proofs.write_rows.Tie as tie
+use Rattle.building.proofs.writer.write_rows.Statement.{statement}
+use Rattle.building.proofs.writer.write_rows.Tie as tie
 
 abbrev Inv-loop : tie.InvT-loop
 Inv-loop version sheet states count out₀ i₀ out i = BlocksSoFar (builtRow version sheet (builtStates stateLimit sheet)) (rowsAt version (sheet .head)) i count out₀ out

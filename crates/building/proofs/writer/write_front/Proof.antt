@@ -2,8 +2,8 @@
 use mathlib.Core.Path.{refl}
 use Rattle.building.proofs.Writing.{states-room, front-written}
 use borrow.Author.Needs.{needs}
-use Rattle.building.proofs.write_front.Statement.{statement}
-use Rattle.building.proofs.write_front.Tie as tie
+use Rattle.building.proofs.writer.write_front.Statement.{statement}
+use Rattle.building.proofs.writer.write_front.Tie as tie
 
 cast-n : tie.Need-cast-n
 cast-n c = search needs

@@ -3,8 +3,8 @@ use native.Mathlib.Omega.{arith}
 use Rattle.convention.proofs.Positions.{state-some}
 use Rattle.building.proofs.Writing.{stored-state}
 use borrow.Author.Needs.{needs}
-use Rattle.building.proofs.write_state.Statement.{statement}
-use Rattle.building.proofs.write_state.Tie as tie
+use Rattle.building.proofs.writer.write_state.Statement.{statement}
+use Rattle.building.proofs.writer.write_state.Tie as tie
 
 cast-out : tie.Need-cast-out
 cast-out c = search needs

@@ -3,8 +3,8 @@ use native.Mathlib.Omega.{arith}
 use lib.ListN.{length-set}
 use Rattle.building.proofs.Writing.{stored-opening}
 use borrow.Author.Needs.{needs}
-use Rattle.building.proofs.write_opening.Statement.{statement}
-use Rattle.building.proofs.write_opening.Tie as tie
+use Rattle.building.proofs.writer.write_opening.Statement.{statement}
+use Rattle.building.proofs.writer.write_opening.Tie as tie
 
 cast-out : tie.Need-cast-out
 cast-out c = search needs

@@ -6,8 +6,8 @@ use Rattle.convention.specs.Built.{builtCell, builtStates}
 use Rattle.building.specs.Writing.{BlocksSoFar}
 use Rattle.building.proofs.Writing.{blocks-begin, cell-asks, cell-on, row-end}
 use borrow.Author.Needs.{needs}
-use Rattle.building.proofs.write_row.Statement.{statement}
-use Rattle.building.proofs.write_row.Tie as tie
+use Rattle.building.proofs.writer.write_row.Statement.{statement}
+use Rattle.building.proofs.writer.write_row.Tie as tie
 
 abbrev Inv-loop : tie.InvT-loop
 Inv-loop version states count i out₀ sheet from head kinds k₀ out k = BlocksSoFar (builtCell version sheet (builtStates stateLimit sheet) from) (rowAt version (sheet .head) i) k kinds out₀ out

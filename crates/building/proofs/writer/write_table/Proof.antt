@@ -1,8 +1,8 @@
 -- `write_table`: what stands before the rows, and the rows after it.
 use Rattle.building.proofs.Writing.{table-written}
 use borrow.Author.Needs.{needs}
-use Rattle.building.proofs.write_table.Statement.{statement}
-use Rattle.building.proofs.write_table.Tie as tie
+use Rattle.building.proofs.writer.write_table.Statement.{statement}
+use Rattle.building.proofs.writer.write_table.Tie as tie
 
 write-front-requires : tie.Need-write-front-requires
 write-front-requires c κs = search needs

@@ -1,8 +1,8 @@
 -- `make_transition`: its fields are those of the transition that is made of the place, by what each call answers.
 use borrow.Author.Tests.{eq-eqb, ne-eqb}
 use borrow.Author.Needs.{needs}
-use Rattle.building.proofs.make_transition.Statement.{statement}
-use Rattle.building.proofs.make_transition.Tie as tie
+use Rattle.building.proofs.writer.make_transition.Statement.{statement}
+use Rattle.building.proofs.writer.make_transition.Tie as tie
 
 parts-of-requires : tie.Need-parts-of-requires
 parts-of-requires c κs = search needs

@@ -1,8 +1,8 @@
 -- `field_a`: on the stack the residue; any other number is a byte.
 use borrow.Author.Tests.{eq-eqb, ne-eqb}
 use borrow.Author.Needs.{needs}
-use Rattle.building.proofs.field_a.Statement.{statement}
-use Rattle.building.proofs.field_a.Tie as tie
+use Rattle.building.proofs.writer.field_a.Statement.{statement}
+use Rattle.building.proofs.writer.field_a.Tie as tie
 
 residue-requires : tie.Need-residue-requires
 residue-requires c κs = search needs

@@ -2,8 +2,8 @@
 use Rattle.building.proofs.Leading.{modulus-some}
 use Rattle.building.proofs.Writing.{next-few, cell-written}
 use borrow.Author.Needs.{needs}
-use Rattle.building.proofs.write_cell.Statement.{statement}
-use Rattle.building.proofs.write_cell.Tie as tie
+use Rattle.building.proofs.writer.write_cell.Statement.{statement}
+use Rattle.building.proofs.writer.write_cell.Tie as tie
 
 lead-requires : tie.Need-lead-requires
 lead-requires c κs = search needs

@@ -5,8 +5,8 @@ use Rattle.convention.specs.Built.{builtKind}
 use Rattle.building.specs.Writing.{BlocksSoFar}
 use Rattle.building.proofs.Writing.{blocks-begin, kind-room, kind-on, blocks-end}
 use borrow.Author.Needs.{needs}
-use Rattle.building.proofs.write_kinds.Statement.{statement}
-use Rattle.building.proofs.write_kinds.Tie as tie
+use Rattle.building.proofs.writer.write_kinds.Statement.{statement}
+use Rattle.building.proofs.writer.write_kinds.Tie as tie
 
 abbrev Inv-loop : tie.InvT-loop
 Inv-loop version out₀ sheet kinds k₀ out k = BlocksSoFar (builtKind version sheet) kindsAt k kinds out₀ out

@@ -3,8 +3,8 @@ use native.Mathlib.Omega.{arith}
 use lib.ListN.{length-set}
 use Rattle.building.proofs.Writing.{stored-transition, next-room, stores-keep}
 use borrow.Author.Needs.{needs}
-use Rattle.building.proofs.write_transition.Statement.{statement}
-use Rattle.building.proofs.write_transition.Tie as tie
+use Rattle.building.proofs.writer.write_transition.Statement.{statement}
+use Rattle.building.proofs.writer.write_transition.Tie as tie
 
 add-out : tie.Need-add-out
 add-out c = search needs

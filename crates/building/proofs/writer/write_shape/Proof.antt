@@ -4,8 +4,8 @@ use lib.ListN.{length-set}
 use Rattle.convention.proofs.Positions.{shape-some}
 use Rattle.building.proofs.Writing.{stored-shape}
 use borrow.Author.Needs.{needs}
-use Rattle.building.proofs.write_shape.Statement.{statement}
-use Rattle.building.proofs.write_shape.Tie as tie
+use Rattle.building.proofs.writer.write_shape.Statement.{statement}
+use Rattle.building.proofs.writer.write_shape.Tie as tie
 
 add-out : tie.Need-add-out
 add-out c = search needs
