@@ -5,10 +5,11 @@ pub mod shapes;
 
 use convention::Head;
 ghost use mathlib.Core.Path.{_≡_};
-ghost use Prim.Native.Nat.{_+_, _<_, _^_};
-ghost use lib.ListN.{getD};
+ghost use Prim.Native.Nat.{_+_, _≤_};
+ghost use lib.ListN.{length, getD};
 ghost use Rattle.convention.specs.Numbers.{orElse, unless as unlessPasses};
-ghost use Rattle.convention.specs.Fields.{partNo, fieldNo, lengthNo, versionOf, headOf, headNo, openingNo, isWidth, isModulus, stateField, leftOverNo};
+ghost use Rattle.convention.specs.Layout.{stateLength};
+ghost use Rattle.convention.specs.Fields.{fieldNo, lengthNo, versionOf, headOf, headNo, openingNo, isWidth, isModulus, stateField, leftOverNo};
 ghost use Rattle.convention.specs.Sheets.{blankHead};
 use crate::layout::KINDS_COUNT_AT;
 use crate::layout::LENGTH_AT;
@@ -37,17 +38,6 @@ pub fn unless(passes: bool, number: u8) -> u8
     ensures { λ r. ⌜ r ≡ unlessPasses passes number ⌝ }
 {
     if passes { 0 } else { number }
-}
-
-// The number of `long` bytes from byte `at` on: 3 where one is missing, `wrong` where what they say is not right.
-pub fn part_no(s: &[u8], at: usize, long: usize, right: bool, wrong: u8) -> u8
-    requires { ⌜ at + long < 2 ^ 64 ⌝ }
-    ensures { λ r. ⌜ r ≡ partNo (now (s .entry)) at long right wrong ⌝ }
-{
-    if s.len() < at + long {
-        return 3;
-    }
-    unless(right, wrong)
 }
 
 // The number of the field at k.
@@ -137,11 +127,12 @@ pub fn opening_no(s: &[u8]) -> u8
     or_else(length, or_else(version, head_no(s)))
 }
 
-// The number of states, or of a state, that stands at byte `at`.
+// The number of states, or of a state, that stands at byte `at`; its bytes are there.
 pub fn state_field(version: u8, s: &[u8], at: usize) -> u16
+    requires { ⌜ at + stateLength version ≤ length (now s) ⌝ }
     ensures { λ r. ⌜ r ≡ stateField version (now (s .entry)) at ⌝ }
 {
-    byte_at(s, at) as u16
+    s[at] as u16
 }
 
 // Number 6: bytes left over after the first n.

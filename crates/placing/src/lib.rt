@@ -63,9 +63,8 @@ fn place(head: Head, kind: SheetKind, s: ByRules, skipped: u8) -> Placement
         return Placement::Registers(Reg(start), count);
     }
     if kind.flags % 2 == 1 {
-        let shape = kind.shape;
-        let offset = stepping::least_offset(shape.alignment, 0, s.p);
-        return Placement::Stack(offset, shapes::stack_bytes(shape));
+        let offset = stepping::least_offset(kind.shape.alignment, 0, s.p);
+        return Placement::Stack(offset, shapes::stack_bytes(kind.shape));
     }
     Placement::Nowhere
 }

@@ -16,9 +16,9 @@ use Rattle.convention.specs.declared.Head.{Head}
 use Rattle.convention.specs.declared.Table.{Table}
 use Rattle.convention.specs.declared.Transition.{Transition}
 use Rattle.convention.specs.Numbers.{unless}
-use Rattle.convention.specs.Layout.{statesAt, transitionLength, rowLength, rowAt, transitionAt}
-use Rattle.convention.specs.Fields.{versionOf, headOf, stateField}
-use Rattle.convention.specs.Tables.{transitionOf, isTransition, transitionNo, tableNo, tableOf, rowNo, row, rowStart}
+use Rattle.convention.specs.Layout.{transitionLength, rowLength, rowAt, transitionAt}
+use Rattle.convention.specs.Fields.{versionOf, headOf}
+use Rattle.convention.specs.Tables.{statesOf, transitionOf, isTransition, transitionNo, tableNo, tableOf, rowNo, row, rowStart}
 use Rattle.convention.specs.Promised.{TableRead}
 use Rattle.convention.proofs.Numbers.{or-first, or-later}
 use Rattle.convention.proofs.Positions.{transition-inside}
@@ -59,10 +59,10 @@ module _ (limit : ℕ) (t : List ℕ) (state number : ℕ) (e : number ≡ table
   unfolding rowNo
   number-table nz = or-first _ _ number e nz
 
-  module _ (v : ℕ) (h : Head) (states : ℕ) (z : number ≡ 0) (ev : v ≡ versionOf t) (eh : h ≡ headOf t) (es : states ≡ stateField v t (statesAt v h)) where
+  module _ (states : ℕ) (z : number ≡ 0) (es : states ≡ statesOf t) where
     number-state : (r : ℕ) → r ≡ unless (ltb state states) 13 → r ≡ rowNo limit t state
     unfolding rowNo
-    number-state r er = rw (← ev, ← eh, ← es) (or-later _ _ number r e z er)
+    number-state r er = rw (← es) (or-later _ _ number r e z er)
 
     pub state-known : state < states → 0 ≡ rowNo limit t state
     state-known l = number-state 0 (rw (lt-ltb _ _ l))

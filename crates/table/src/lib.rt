@@ -16,16 +16,14 @@ use fields::layout::KINDS_AT;
 use fields::layout::NEXT_AT;
 use fields::shapes;
 ghost use mathlib.Core.Path.{_≡_};
-ghost use mathlib.Core.Bool.{_&&_};
 ghost use mathlib.Core.List.{_++_};
 ghost use Prim.Native.Nat.{_+_, _-_, _*_, _≤_};
-ghost use lib.Dec.{leb};
 ghost use lib.ListN.{length, drop, replicate};
 ghost use Rattle.convention.specs.Numbers.{stateLimit, orElse};
-ghost use Rattle.convention.specs.Layout.{kindsAt, statesAt, stateLength, rowsAt, transitionLength, tableLength};
-ghost use Rattle.convention.specs.Fields.{partNo, stateField, leftOverNo};
+ghost use Rattle.convention.specs.Layout.{kindsAt, rowsAt, transitionLength, tableLength};
+ghost use Rattle.convention.specs.Fields.{versionOf, headOf, leftOverNo};
 ghost use Rattle.convention.specs.Sheets.{blankShape};
-ghost use Rattle.convention.specs.Tables.{tableKindsNo, tableKindsOf, transitionOf, isTransition, transitionNo, transitionsNo, tableNo, tableOf, blankTable, readTable, transition, rowNo};
+ghost use Rattle.convention.specs.Tables.{tableKindsNo, tableKindsOf, statesOf, statesNo, transitionOf, isTransition, transitionNo, transitionsNo, tableNo, tableOf, blankTable, readTable, transition, rowNo};
 ghost use Rattle.convention.specs.Promised.{TableRead};
 ghost use Rattle.table.specs.Within.{KindsThere, InTable};
 ghost use Rattle.table.specs.Rows.{RowPart};
@@ -72,20 +70,28 @@ fn kinds_of(version: u8, head: Head, t: &[u8]) -> [Shape; 8]
     kinds
 }
 
-// The number of states, as its bytes say it.
-fn states_of(version: u8, head: Head, t: &[u8]) -> u16
-    ensures { λ r. ⌜ r ≡ stateField version (now (t .entry)) (statesAt version head) ⌝ }
+// The number of states, as its bytes say it, which are there.
+fn states_of(t: &[u8]) -> u16
+    requires { ⌜ rowsAt (versionOf (now t)) (headOf (now t)) ≤ length (now t) ⌝ }
+    ensures { λ r. ⌜ r ≡ statesOf (now (t .entry)) ⌝ }
 {
+    let version = fields::version_of(t);
+    let head = fields::head_of(t);
     fields::state_field(version, t, layout::states_at(version, head))
 }
 
 // Number 4, or 3, for the number of states: 1 to `STATE_LIMIT`.
-fn states_no(version: u8, head: Head, states: u16, t: &[u8]) -> u8
-    ensures { λ r. ⌜ r ≡ partNo (now (t .entry)) (statesAt version head) (stateLength version) (leb 1 states && leb states stateLimit) 4 ⌝ }
+fn states_no(t: &[u8]) -> u8
+    ensures { λ r. ⌜ r ≡ statesNo stateLimit (now (t .entry)) ⌝ }
 {
-    let right = (1 <= states) & (states as usize <= STATE_LIMIT);
-    let at = layout::states_at(version, head);
-    fields::part_no(t, at, layout::state_length(version), right, 4)
+    let version = fields::version_of(t);
+    let head = fields::head_of(t);
+    if layout::rows_at(version, head) <= t.len() {
+        let states = states_of(t);
+        let right = (1 <= states) & (states as usize <= STATE_LIMIT);
+        return fields::unless(right, 4);
+    }
+    3
 }
 
 // The transition whose bytes, which are there, begin at byte `at`.
@@ -173,11 +179,11 @@ fn table_no(t: &[u8]) -> u8
     if kinds != 0 {
         return kinds;
     }
-    let states = states_of(version, head, t);
-    let number = states_no(version, head, states, t);
+    let number = states_no(t);
     if number != 0 {
         return number;
     }
+    let states = states_of(t);
     rows_no(version, head, states, t)
 }
 
@@ -189,7 +195,7 @@ fn table_of(t: &[u8]) -> Table
     let version = fields::version_of(t);
     let head = fields::head_of(t);
     let kinds = kinds_of(version, head, t);
-    let states = states_of(version, head, t);
+    let states = states_of(t);
     Table {
         version,
         head,
@@ -256,7 +262,7 @@ pub fn row_no(t: &[u8], state: usize) -> u8
     if number != 0 {
         return number;
     }
-    let states = states_of(fields::version_of(t), fields::head_of(t), t);
+    let states = states_of(t);
     if state < states as usize { 0 } else { 13 }
 }
 

@@ -1,4 +1,7 @@
 -- `row_no`: the number of the table, or the test of the state against the number of states.
+use mathlib.Core.Path.{sym, _∙_}
+use Rattle.convention.specs.Numbers.{stateLimit}
+use Rattle.table.proofs.Whole.{states-asked}
 use Rattle.table.proofs.Rows.{number-table, state-known, state-unknown}
 use borrow.Author.Needs.{needs}
 use Rattle.table.proofs.row_no.Statement.{statement}
@@ -10,14 +13,8 @@ table-no-requires c κs = search needs
 returns : tie.Need-returns
 returns c = search (number-table, needs)
 
-version-of-requires : tie.Need-version-of-requires
-version-of-requires c κs = search needs
-
-head-of-requires : tie.Need-head-of-requires
-head-of-requires c κs = search needs
-
 states-of-requires : tie.Need-states-of-requires
-states-of-requires c κs = search needs
+states-of-requires c κs = states-asked stateLimit _ (sym (c .before .table-no .ensures) ∙ c .if1 .left)
 
 cast-if2 : tie.Need-cast-if2
 cast-if2 c = search needs
@@ -34,8 +31,6 @@ row-no-spec =
     (tie.spec
     table-no-requires
     returns
-    version-of-requires
-    head-of-requires
     states-of-requires
     cast-if2
     returns-2

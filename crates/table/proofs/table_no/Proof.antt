@@ -22,14 +22,14 @@ kinds-no-requires c κs = search (opened, needs)
 returns-2 : tie.Need-returns-2
 returns-2 c = search (number-kinds, needs)
 
-states-of-requires : tie.Need-states-of-requires
-states-of-requires c κs = search needs
-
 states-no-requires : tie.Need-states-no-requires
 states-no-requires c κs = search needs
 
 returns-3 : tie.Need-returns-3
 returns-3 c = search (number-states, needs)
+
+states-of-requires : tie.Need-states-of-requires
+states-of-requires c κs = search (rows-there, needs)
 
 rows-no-requires : tie.Need-rows-no-requires
 rows-no-requires c κs = search (rows-there, needs)
@@ -47,8 +47,8 @@ table-no-spec =
     head-of-requires
     kinds-no-requires
     returns-2
-    states-of-requires
     states-no-requires
     returns-3
+    states-of-requires
     rows-no-requires
     returns-4)

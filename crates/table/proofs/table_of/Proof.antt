@@ -1,6 +1,6 @@
 -- `table_of`: version, head, kinds and number of states, by what each call answers.
 use Rattle.convention.specs.Tables.{tableOf}
-use Rattle.table.proofs.Whole.{kinds-asked}
+use Rattle.table.proofs.Whole.{kinds-asked, states-asked}
 use borrow.Author.Needs.{needs}
 use Rattle.table.proofs.table_of.Statement.{statement}
 use Rattle.table.proofs.table_of.Tie as tie
@@ -15,7 +15,7 @@ kinds-of-requires : tie.Need-kinds-of-requires
 kinds-of-requires c κs = search (kinds-asked, needs)
 
 states-of-requires : tie.Need-states-of-requires
-states-of-requires c κs = search needs
+states-of-requires c κs = search (states-asked, needs)
 
 returns : tie.Need-returns
 unfolding tableOf
