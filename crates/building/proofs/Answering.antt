@@ -4,7 +4,6 @@ use mathlib.Core.Logic.{inl, inr}
 use mathlib.Core.Path.{_≡_, refl, sym, _∙_}
 use mathlib.Core.Bool.{false, not}
 use mathlib.Core.List.{List}
-use native.Mathlib.Nat.{zero-add}
 use native.Mathlib.Omega.{arith}
 use lib.Dec.{leb}
 use lib.ListN.{length}
@@ -18,14 +17,14 @@ use Rattle.convention.specs.Numbers.{stateLimit, orElse, unless, reading}
 use Rattle.convention.specs.Bytes.{written}
 use Rattle.convention.specs.Sheets.{readSheet}
 use Rattle.convention.specs.Layout.{rowAt}
-use Rattle.convention.specs.Built.{builtVersion, tableOfStates, builtStates, builtTable, buildNo, builtOrRefused, build, buildWrites, buildMemory}
+use Rattle.convention.specs.Built.{builtVersion, tableOfStates, builtStates, builtTable, buildSheetNo, buildNo, builtOrRefused, build, buildWrites, buildMemory}
 use Rattle.convention.specs.Promised.{SheetRead}
 use Rattle.convention.proofs.Runs.{either}
 use Rattle.convention.proofs.Numbers.{or-zero, or-here, unless-zero}
 use Rattle.convention.proofs.Sheets.{sheet-right, sheet-is, sheet-refused, sheet-wrong}
 use Rattle.building.specs.declared.memory.Met.{Met}
 use Rattle.building.specs.Holding.{MetHolds}
-use Rattle.building.specs.Writing.{TableAsks, tableNumber, BuildingIs}
+use Rattle.building.specs.Writing.{TableAsks, BuildingIs}
 use Rattle.building.proofs.Readable.{built-length}
 
 -- A number that is not 0 refuses, and leaves the memory.
@@ -56,7 +55,7 @@ module _ (sheet : Sheet) (states : List ℕ) (met : Met) (before : List ℕ) (le
     whole : len ≡ length (builtTable stateLimit sheet)
     whole = el ∙ rw (ev, holds .all o .many) (sym (built-length _ sheet (builtStates stateLimit sheet)))
 
-  table-number : number ≡ tableNumber sheet (length before)
+  table-number : number ≡ buildSheetNo stateLimit sheet (length before)
   table-number = elim (either (met .over)) [
     | inl o ↦ rw (en, o, lt-leb _ _ (holds .more o))
     | inr o ↦ rw (en, o, le-leb _ _ (few o), ← whole o)
@@ -90,8 +89,8 @@ module _ (sheet : Sheet) (states : List ℕ) (met : Met) (before : List ℕ) (le
 
     pub table-built : (after : List ℕ) → after ≡ written before 0 (tableOfStates v sheet (builtStates stateLimit sheet)) → BuildingIs sheet before answer after
     table-built after e =
-        let none : tableNumber sheet (length before) ≡ 0 = sym table-number ∙ z in
-        record { answers = ea ∙ rw (none, z, holds .all all-met .many, whole all-met); memory = rw none (rw (ev, holds .all all-met .many) at e ∙ rw zero-add) }
+        let none : buildSheetNo stateLimit sheet (length before) ≡ 0 = sym table-number ∙ z in
+        record { answers = ea ∙ rw (none, z, holds .all all-met .many, whole all-met); memory = rw none (rw (ev, holds .all all-met .many) at e) }
 
 -- The reader's answer.
 module _ (s : List ℕ) (a : SheetAnswer) (ea : a ≡ readSheet s) where

@@ -2,6 +2,7 @@
 use Prim.Native.Nat.{ℕ, zero, suc, _≤_}
 use mathlib.Core.Path.{_≡_, refl, sym}
 use mathlib.Core.List.{List, _++_}
+use native.Mathlib.Nat.{zero-add}
 use native.Mathlib.Omega.{arith}
 use lib.ListN.{length, take, drop, length-append}
 use lib.Seq.{take-at, drop-at}
@@ -10,18 +11,18 @@ use Rattle.convention.specs.declared.BuildingAnswer.the-variants.{Built}
 use Rattle.convention.specs.Layout.{LengthSaid}
 use Rattle.convention.specs.Sheets.{sheetNo, sheetOf}
 use Rattle.convention.specs.Tables.{tableNo}
-use Rattle.convention.specs.Built.{builtVersion, builtMost, builtStates, builtTable, statesNumber, buildNo, builtOrRefused, build, buildMemory}
+use Rattle.convention.specs.Built.{builtVersion, builtMost, builtStates, builtTable, manyStatesNo, buildNo, builtOrRefused, build, buildMemory}
 use Rattle.convention.proofs.Numbers.{or-zero, unless-zero}
 use Rattle.convention.proofs.Positions.{table-most}
 use Rattle.convention.proofs.Sheets.{sheet-read}
 use Rattle.building.proofs.Readable.{built-length, readable}
 
 -- The states fit where number 11 is not given.
-pub states-fit : (limit : ℕ) (s : List ℕ) → statesNumber limit (sheetOf s) ≡ 0 → length (builtStates limit (sheetOf s)) ≤ limit
+pub states-fit : (limit : ℕ) (s : List ℕ) → manyStatesNo limit (sheetOf s) ≡ 0 → length (builtStates limit (sheetOf s)) ≤ limit
 states-fit limit s e = leb-true _ limit (unless-zero _ 11 (omega arith) e)
 
 -- A built table is no longer than the longest.
-pub built-most : (limit : ℕ) (s : List ℕ) → sheetNo s ≡ 0 → statesNumber limit (sheetOf s) ≡ 0 → length (builtTable limit (sheetOf s)) ≤ builtMost limit
+pub built-most : (limit : ℕ) (s : List ℕ) → sheetNo s ≡ 0 → manyStatesNo limit (sheetOf s) ≡ 0 → length (builtTable limit (sheetOf s)) ≤ builtMost limit
 unfolding builtVersion
 built-most limit s read e =
     rw (built-length _ (sheetOf s) (builtStates limit (sheetOf s)))
@@ -56,7 +57,7 @@ module _ (limit : ℕ) (s : List ℕ) (room n len : ℕ) (built : build limit s 
 module _ (limit : ℕ) (s out : List ℕ) (n len : ℕ) (built : build limit s (length out) ≡ Built n len) where
   there : buildMemory limit s out ≡ builtTable limit (sheetOf s) ++ drop (length (builtTable limit (sheetOf s))) out
   unfolding buildMemory
-  there = rw (built-says limit s (length out) n len built .0)
+  there = rw (built-says limit s (length out) n len built .0, zero-add)
 
   pub bytes-are : take len (buildMemory limit s out) ≡ builtTable limit (sheetOf s)
   bytes-are = rw there (take-at (builtTable limit (sheetOf s)) _ len (sym (built-says limit s (length out) n len built .2)))

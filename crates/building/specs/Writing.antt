@@ -2,7 +2,6 @@
 use Prim.Native.Nat.{ℕ, _+_, _-_, _≤_, _<_}
 use mathlib.Core.Path.{_≡_}
 use mathlib.Core.List.{List, [], _∷_, _++_}
-use lib.Dec.{leb}
 use lib.ListN.{length}
 use Rattle.convention.specs.declared.Head.{Head}
 use Rattle.convention.specs.declared.SheetKind.{SheetKind}
@@ -10,13 +9,13 @@ use Rattle.convention.specs.declared.Sheet.{Sheet}
 use Rattle.convention.specs.declared.PlacementParts.{PlacementParts}
 use Rattle.convention.specs.declared.Allocation.{Allocation}
 use Rattle.convention.specs.declared.BuildingAnswer.{BuildingAnswer}
-use Rattle.convention.specs.Numbers.{stateLimit, orElse, unless}
+use Rattle.convention.specs.Numbers.{stateLimit}
 use Rattle.convention.specs.Bytes.{twoBytes, written, blocks}
 use Rattle.convention.specs.Sheets.{sheetKind}
 use Rattle.convention.specs.Layout.{lengthBytes, statesAt, rowsAt, transitionLength, tableLength}
 use Rattle.convention.specs.Fields.{stateBytes}
 use Rattle.convention.specs.Promised.{SheetRead}
-use Rattle.convention.specs.Built.{builtKind, builtCell, builtStates, builtTable, statesNumber, builtOrRefused, buildWrites}
+use Rattle.convention.specs.Built.{builtKind, builtCell, builtStates, builtTable, buildSheetNo, builtOrRefused, buildWrites}
 use Rattle.building.specs.Holding.{MetRoom, Keeps, LeadAsks}
 
 -- A sheet that was read, and all its states kept, no more than have room.
@@ -76,11 +75,7 @@ pub record BlocksSoFar (block : ℕ → List ℕ) (at n all : ℕ) (before out :
   pub there : out ≡ written before at (blocks block n)
   pub long : length out ≡ length before
 
--- 'Building: 11, 12', of a sheet that was read.
-abbrev pub tableNumber : Sheet → ℕ → ℕ
-tableNumber sheet room = orElse (statesNumber stateLimit sheet) (unless (leb (length (builtTable stateLimit sheet)) room) 12)
-
--- The answer of building its table, and the lent memory afterwards.
+-- The answer of building the table of a sheet that was read, and the lent memory afterwards.
 pub record BuildingIs (sheet : Sheet) (before : List ℕ) (answer : BuildingAnswer) (after : List ℕ) : Type 0 where
-  pub answers : answer ≡ builtOrRefused (tableNumber sheet (length before)) (length (builtStates stateLimit sheet)) (length (builtTable stateLimit sheet))
-  pub memory : after ≡ buildWrites (tableNumber sheet (length before)) (builtTable stateLimit sheet) before
+  pub answers : answer ≡ builtOrRefused (buildSheetNo stateLimit sheet (length before)) (length (builtStates stateLimit sheet)) (length (builtTable stateLimit sheet))
+  pub memory : after ≡ buildWrites (buildSheetNo stateLimit sheet (length before)) (builtTable stateLimit sheet) before

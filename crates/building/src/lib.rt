@@ -19,7 +19,6 @@ ghost use lib.ListN.{length};
 ghost use mathlib.Core.Bool.{not};
 ghost use lib.Dec.{leb};
 ghost use Rattle.convention.specs.Numbers.{stateLimit, orElse, unless};
-ghost use Rattle.convention.specs.Bytes.{written};
 ghost use Rattle.convention.specs.Promised.{SheetRead};
 ghost use Rattle.convention.specs.Explored.{met as metBefore};
 ghost use Rattle.convention.specs.Built.{allocation as allocationOf, allocations, builtStates, builtOrRefused, build as builds, buildMemory, firstAllocation};
@@ -50,9 +49,9 @@ fn allocation(modulus: u8, s: ByRules) -> Allocation
 }
 
 // Where a kind leads from an allocation state: the place that the rules give, and the state after it.
-pub struct Led {
-    pub place: Placement,
-    pub next: Allocation,
+struct Led {
+    place: Placement,
+    next: Allocation,
 }
 
 // The rules' step from an allocation state, taken at p = its remainder.

@@ -3,7 +3,7 @@ use Prim.Native.Nat.{ℕ, zero, suc, _+_, _%_}
 use mathlib.Core.Bool.{Bool, true, false, cond, _&&_, Bool·beq}
 use mathlib.Core.List.{List, [], _∷_, _++_}
 use lib.Dec.{leb, eqb}
-use lib.ListN.{length, drop}
+use lib.ListN.{length}
 use Rattle.convention.specs.declared.Placement.{Placement}
 use Rattle.convention.specs.declared.Transition.{Transition}
 use Rattle.convention.specs.declared.PlacementParts.{PlacementParts}
@@ -13,7 +13,7 @@ use Rattle.convention.specs.declared.ByRules.{ByRules}
 use Rattle.convention.specs.declared.BuildingAnswer.{BuildingAnswer}
 use Rattle.convention.specs.declared.BuildingAnswer.the-variants.{Built}
 use Rattle.convention.specs.Numbers.{orElse, unless}
-use Rattle.convention.specs.Bytes.{twoBytes, blocks}
+use Rattle.convention.specs.Bytes.{twoBytes, written, blocks}
 use Rattle.convention.specs.Layout.{longestTable}
 use Rattle.convention.specs.Fields.{shapeBytes, stateBytes}
 use Rattle.convention.specs.Sheets.{sheetKind, sheetNo, sheetOf}
@@ -113,13 +113,15 @@ abbrev pub builtTable : ℕ → Sheet → List ℕ
 builtTable limit sheet = tableOfStates (builtVersion sheet (length (builtStates limit sheet))) sheet (builtStates limit sheet)
 
 -- Number 11: 'lists of the sheet's kinds reach more than 200 allocation states'. Going through as many as the limit meets one more.
-abbrev pub statesNumber : ℕ → Sheet → ℕ
-statesNumber limit sheet = unless (leb (length (builtStates limit sheet)) limit) 11
+abbrev pub manyStatesNo : ℕ → Sheet → ℕ
+manyStatesNo limit sheet = unless (leb (length (builtStates limit sheet)) limit) 11
 
--- 'Building: 11, 12', after the number that reading the sheet gave.
+-- 'Building: 11, 12', of a sheet that was read; and after the number that reading it gave.
+abbrev pub buildSheetNo : ℕ → Sheet → ℕ → ℕ
+buildSheetNo limit sheet room = orElse (manyStatesNo limit sheet) (unless (leb (length (builtTable limit sheet)) room) 12)
+
 unfoldable pub buildNo : ℕ → List ℕ → ℕ → ℕ
-buildNo limit s room =
-    orElse (sheetNo s) (orElse (statesNumber limit (sheetOf s)) (unless (leb (length (builtTable limit (sheetOf s))) room) 12))
+buildNo limit s room = orElse (sheetNo s) (buildSheetNo limit (sheetOf s) room)
 
 -- 'Building answers N and the table's length, writes the table and leaves the bytes behind it.'
 abbrev pub builtOrRefused : ℕ → ℕ → ℕ → BuildingAnswer
@@ -130,7 +132,7 @@ unfoldable pub build : ℕ → List ℕ → ℕ → BuildingAnswer
 build limit s room = builtOrRefused (buildNo limit s room) (length (builtStates limit (sheetOf s))) (length (builtTable limit (sheetOf s)))
 
 abbrev pub buildWrites : ℕ → List ℕ → List ℕ → List ℕ
-buildWrites zero table out = table ++ drop (length table) out
+buildWrites zero table out = written out 0 table
 buildWrites (suc number) table out = out
 
 unfoldable pub buildMemory : ℕ → List ℕ → List ℕ → List ℕ

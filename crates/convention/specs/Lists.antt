@@ -3,7 +3,7 @@ use Prim.Native.Nat.{ℕ, zero, suc, _*_, _<_}
 use mathlib.Core.Bool.{true, false, cond}
 use mathlib.Core.List.{List, [], _∷_, _++_}
 use lib.Dec.{ltb, leb}
-use lib.ListN.{length, getD, drop}
+use lib.ListN.{length, getD}
 use Rattle.convention.specs.declared.Offset.{Offset}
 use Rattle.convention.specs.declared.Placement.{Placement}
 use Rattle.convention.specs.declared.Placement.the-variants.{Registers, Stack, Nowhere}
@@ -11,7 +11,7 @@ use Rattle.convention.specs.declared.PlacementParts.{PlacementParts}
 use Rattle.convention.specs.declared.PlacingAnswer.{PlacingAnswer}
 use Rattle.convention.specs.declared.PlacingAnswer.the-variants.{Placed, Unknown, Faulty}
 use Rattle.convention.specs.Numbers.{orElse, unless}
-use Rattle.convention.specs.Bytes.{fourBytes}
+use Rattle.convention.specs.Bytes.{fourBytes, written}
 
 -- One way of placing: its states, the first, and what each kind gives in a state: a place, a fault (0: none) and the state after it; p.
 pub record Steps : Type 1 where
@@ -99,7 +99,7 @@ abbrev pub records : (M : Steps) → List ℕ → List ℕ
 records M ks = recordsOf (placesFrom M (M .begin) ks)
 
 unfoldable pub placingMemory : PlacingAnswer → (M : Steps) → List ℕ → List ℕ → List ℕ
-placingMemory (Placed n p) M ks out = records M ks ++ drop (length (records M ks)) out
+placingMemory (Placed n p) M ks out = written out 0 (records M ks)
 placingMemory (Unknown at) M ks out = out
 placingMemory (Faulty at fault) M ks out = out
 placingMemory (PlacingAnswer.Refused number) M ks out = out

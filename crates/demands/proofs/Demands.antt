@@ -3,7 +3,7 @@ use Prim.Native.Nat.{ℕ, _*_, _≤_, _<_}
 use mathlib.Core.Path.{_≡_, refl, sym, ap, _∙_}
 use mathlib.Core.Logic.{inl, inr, _↔_}
 use mathlib.Core.List.{List, _++_}
-use native.Mathlib.Nat.{eq-zero-or-pos}
+use native.Mathlib.Nat.{zero-add, eq-zero-or-pos}
 use native.Mathlib.Omega.{arith}
 use lib.ListN.{length, getD, take, drop}
 use lib.Seq.{getD-take, drop-at, length-take-le}
@@ -75,7 +75,7 @@ down-to-the-byte readNo m M ks out n p placed =
       count = sym (means .count);
       final = sym (means .final);
       records = λ i h. record-at _ _ i (rw (places-length M (M .begin) ks) h);
-      untouched = rw (← records-long M ks) (drop-at (records M ks) _ _ refl);
+      untouched = rw (← records-long M ks, zero-add) (drop-at (records M ks) _ _ refl);
     }
 
 -- A walk that stops after its list has no fault.

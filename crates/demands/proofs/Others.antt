@@ -16,7 +16,7 @@ use Rattle.convention.specs.Numbers.{stateLimit, orElse, unless, buildingSays, 
 use Rattle.convention.specs.Fields.{headOf}
 use Rattle.convention.specs.Sheets.{sheetNo, sheetOf}
 use Rattle.convention.specs.Tables.{tableNo, tableOf, statesOf, rowNo, row}
-use Rattle.convention.specs.Built.{builtStates, builtTable, statesNumber, buildNo, builtOrRefused, build, buildWrites, buildMemory}
+use Rattle.convention.specs.Built.{builtStates, builtTable, manyStatesNo, buildNo, builtOrRefused, build, buildWrites, buildMemory}
 use Rattle.convention.specs.Judged.{judgeRoom, judgeNo, Judges}
 use Rattle.convention.proofs.Numbers.{or-zero, or-here, or-at, or-past, or-on, or-keeps, unless-zero, unless-true, unless-here}
 use Rattle.convention.proofs.Sheets.{sheet-read}
@@ -50,7 +50,7 @@ answer-writes (suc number) n len table out h = refl
 
 module _ (s out : List ℕ) where
   abbrev many : ℕ
-  many = statesNumber stateLimit (sheetOf s)
+  many = manyStatesNo stateLimit (sheetOf s)
 
   abbrev narrow : ℕ
   narrow = unless (leb (length (builtTable stateLimit (sheetOf s))) (length out)) 12

@@ -24,7 +24,6 @@ use Rattle.convention.specs.declared.JudgingAnswer.the-variants.{Clean, Fault}
 use Rattle.convention.specs.Numbers.{stateLimit, argumentLimit, readingNo, placingSays, buildingSays, judgingSays}
 use Rattle.convention.specs.Fields.{lengthField}
 use Rattle.convention.specs.Sheets.{sheetNo, sheetOf, readSheet}
-use Rattle.convention.specs.Shapes.{pMost}
 use Rattle.convention.specs.Layout.{lengthBytes, versionAt, rowLength, rowAt}
 use Rattle.convention.specs.Tables.{tableNo, tableOf, readTable, rowNo, row}
 use Rattle.convention.specs.Lists.{Steps, placeBy, faultFrom, stopFrom, stateFrom, recordOf, recordLength, KindsBelow}
@@ -154,8 +153,8 @@ pub record Demand1 : Type 0 where
   pub builds : (s out : List ℕ) → BuildingRefuses s out (build stateLimit s (length out)) (buildMemory stateLimit s out)
   pub judges : (t out : List ℕ) (answer : JudgingAnswer) (after : List ℕ) → Judges stateLimit t out answer after → JudgingRefuses t out answer after
   pub rows : (t : List ℕ) (state : ℕ) → RowRefuses t state (rowNo stateLimit t state) (row stateLimit t state)
-  pub p-by-rules : (s ks : List ℕ) (room n : ℕ) (p : Offset) → placeByRules argumentLimit s ks room ≡ Placed n p → p .0 ≤ pMost argumentLimit
-  pub p-by-table : (t ks : List ℕ) (room n : ℕ) (p : Offset) → placeByTable stateLimit argumentLimit t ks room ≡ Placed n p → p .0 ≤ pMost argumentLimit
+  pub p-by-rules : (s ks : List ℕ) (room n : ℕ) (p : Offset) → placeByRules argumentLimit s ks room ≡ Placed n p → p .0 ≤ 31600
+  pub p-by-table : (t ks : List ℕ) (room n : ℕ) (p : Offset) → placeByTable stateLimit argumentLimit t ks room ≡ Placed n p → p .0 ≤ 31600
 
 -- ---- Demand 2. 'A placement is the one that 01's rules give, argument by argument, down to the byte. A table built from a sheet gives that same placement, or stops
 -- at the same argument, for every list of kinds of any length.'

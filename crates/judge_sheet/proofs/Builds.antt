@@ -12,7 +12,7 @@ use Rattle.convention.specs.declared.BuildingAnswer.the-variants.{Built}
 use Rattle.convention.specs.Numbers.{stateLimit, orElse}
 use Rattle.convention.specs.Fields.{headOf}
 use Rattle.convention.specs.Sheets.{sheetNo, sheetOf}
-use Rattle.convention.specs.Built.{builtStates, builtTable, statesNumber, buildNo, build, buildMemory}
+use Rattle.convention.specs.Built.{builtStates, builtTable, manyStatesNo, buildNo, build, buildMemory}
 use Rattle.convention.proofs.Positions.{length-said}
 use Rattle.building.proofs.Readable.{built-head, built-states}
 use Rattle.building.proofs.Bytes.{built-most, built-says, built-readable, bytes-are, bytes-within}
@@ -35,7 +35,7 @@ module _ (s : List ℕ) where
   unfolding buildNo
   same-no =
       or-same (sheetNo s) _ _ λ read.
-      or-same (statesNumber stateLimit (sheetOf s)) _ _ λ e. rw (le-leb _ _ (built-most stateLimit s read e), le-leb _ _ (le-refl (length table)))
+      or-same (manyStatesNo stateLimit (sheetOf s)) _ _ λ e. rw (le-leb _ _ (built-most stateLimit s read e), le-leb _ _ (le-refl (length table)))
 
   pub room-enough : build stateLimit s tableRoom ≡ build stateLimit s (length (builtTable stateLimit (sheetOf s)))
   unfolding build

@@ -28,11 +28,11 @@ tests-most first later a b h k = or-keeps (λ n. n ≤ 4) (unless first a) (unle
     test-most false n h = h
 
 -- The fault of a step.
-step-most : (h : Head) (kind : Shape) (x : Transition) (given : List Bool) → tableFault h kind x given ≤ 4
-step-most h kind x given = elim (step-cases h x) [
-  | inl r ↦ rw (r .fault kind given) (tests-most (freeRun given (x .a) (x .b)) (rightCount (h .width) (x .b) kind) 2 3 (omega arith) (omega arith))
-  | inr (inl r) ↦ rw (r .fault kind given) (tests-most (eqb (x .b) (stackBytes kind)) (eqb (x .a % kind .alignment) 0) 3 4 (omega arith) (omega arith))
-  | inr (inr r) ↦ rw (r .fault kind given) (omega arith)
+step-most : (h : Head) (shape : Shape) (x : Transition) (given : List Bool) → tableFault h shape x given ≤ 4
+step-most h shape x given = elim (step-cases h x) [
+  | inl r ↦ rw (r .fault shape given) (tests-most (freeRun given (x .a) (x .b)) (rightCount (h .width) (x .b) shape) 2 3 (omega arith) (omega arith))
+  | inr (inl r) ↦ rw (r .fault shape given) (tests-most (eqb (x .b) (stackBytes shape)) (eqb (x .a % shape .alignment) 0) 3 4 (omega arith) (omega arith))
+  | inr (inr r) ↦ rw (r .fault shape given) (omega arith)
 ]
 
 -- The fault of a list.

@@ -33,12 +33,12 @@ module _ (x : Transition) (watch : Watch) where
   gives-nothing e = rw e
 
 -- What is watched is fault 2 where it is given once more; any other fault is there where nothing was given, too.
-module _ (h : Head) (kind : Shape) (x : Transition) (again : Bool) where
-  pub fault-again : again ≡ true → 2 ≡ watchedFault h kind x again
+module _ (h : Head) (shape : Shape) (x : Transition) (again : Bool) where
+  pub fault-again : again ≡ true → 2 ≡ watchedFault h shape x again
   unfolding watchedFault
   fault-again e = rw e
 
-  pub fault-else : (fault : ℕ) → again ≡ false → fault ≡ tableFault h kind x noRegisters → fault ≡ watchedFault h kind x again
+  pub fault-else : (fault : ℕ) → again ≡ false → fault ≡ tableFault h shape x noRegisters → fault ≡ watchedFault h shape x again
   unfolding watchedFault
   fault-else fault e q = rw e q
 

@@ -53,9 +53,9 @@ abbrev pub amongGiven : List Bool → Watch → Bool
 amongGiven given (Register r) = getD given (r .0) false
 amongGiven given Nothing = false
 
-module _ (h : Head) (kind : Shape) (x : Transition) (given : List Bool) where
+module _ (h : Head) (shape : Shape) (x : Transition) (given : List Bool) where
   -- A step without a fault gives nothing that is watched once more, and has none where nothing was given,
-  gives-new : (watch : Watch) → tableFault h kind x given ≡ 0 → amongGiven given watch && givesWatched x watch ≡ false
+  gives-new : (watch : Watch) → tableFault h shape x given ≡ 0 → amongGiven given watch && givesWatched x watch ≡ false
   unfolding tableFault givesWatched
   gives-new Nothing e = refl
   gives-new (Register r) e = elim (either (eqb (x .form) 1)) [
@@ -63,7 +63,7 @@ module _ (h : Head) (kind : Shape) (x : Transition) (given : List Bool) where
     | inr f ↦ rw (f, and-false)
   ]
 
-  clean-first : tableFault h kind x given ≡ 0 → tableFault h kind x noRegisters ≡ 0
+  clean-first : tableFault h shape x given ≡ 0 → tableFault h shape x noRegisters ≡ 0
   unfolding tableFault
   clean-first e = elim (either (eqb (x .form) 1)) [
     | inl f ↦ rw (f, all-free (x .a) (x .b)) (or-zero (unless (freeRun given (x .a) (x .b)) 2) _ (rw f at e) .1)
@@ -71,17 +71,17 @@ module _ (h : Head) (kind : Shape) (x : Transition) (given : List Bool) where
   ]
 
   -- so it has none in any watched walk,
-  step-clean : (watch : Watch) → tableFault h kind x given ≡ 0 → watchedFault h kind x (amongGiven given watch && givesWatched x watch) ≡ 0
+  step-clean : (watch : Watch) → tableFault h shape x given ≡ 0 → watchedFault h shape x (amongGiven given watch && givesWatched x watch) ≡ 0
   unfolding watchedFault
   step-clean watch e = rw (gives-new watch e) (clean-first e)
 
   -- and one that is faulty in a watched walk is faulty.
-  step-faulty : (watch : Watch) → 0 < watchedFault h kind x (amongGiven given watch && givesWatched x watch) → 0 < tableFault h kind x given
-  step-faulty watch f = elim (eq-zero-or-pos (tableFault h kind x given)) [ inl e ↦ absurd (omega (arith, step-clean watch e)) | inr p ↦ p ]
+  step-faulty : (watch : Watch) → 0 < watchedFault h shape x (amongGiven given watch && givesWatched x watch) → 0 < tableFault h shape x given
+  step-faulty watch f = elim (eq-zero-or-pos (tableFault h shape x given)) [ inl e ↦ absurd (omega (arith, step-clean watch e)) | inr p ↦ p ]
 
   -- A step with a fault has one in some watched walk: that of a register of its run that was given, or else that of nothing.
-  step-watched : (x .form ≡ 1 → x .a + x .b ≤ h .registers) → 0 < tableFault h kind x given
-      → (watch : Watch) × WatchedBelow (h .registers) watch × (0 < watchedFault h kind x (amongGiven given watch && givesWatched x watch))
+  step-watched : (x .form ≡ 1 → x .a + x .b ≤ h .registers) → 0 < tableFault h shape x given
+      → (watch : Watch) × WatchedBelow (h .registers) watch × (0 < watchedFault h shape x (amongGiven given watch && givesWatched x watch))
   unfolding tableFault watchedFault givesWatched WatchedBelow
   step-watched within p = elim (either (eqb (x .form) 1)) [
     | inl f ↦ elim (either (freeRun given (x .a) (x .b))) [

@@ -26,7 +26,7 @@ use Rattle.stepping.specs.Ends.{stackEnd}
 use Rattle.stepping.proofs.Runs.{length-mark}
 use Rattle.stepping.proofs.Accepted.{Accepted, accepted}
 use Rattle.stepping.proofs.Apart.{FreeIn, FromP, StepGives, mark-stays, place-length, apart, p-most}
-use Rattle.convention.specs.Shapes.{stepMost, pMost}
+use Rattle.convention.specs.Shapes.{pMost}
 use Rattle.placing.proofs.Search.{skipped-free}
 use Rattle.placing.proofs.Steps.{aligned, run-ends, stack-end, p-grows}
 
@@ -91,9 +91,9 @@ module _ (sheet : Sheet) (read : SheetRead sheet) where
         most = p-grows (sheet .head) kind s (read .head) (read .kind k h);
       }
 
-  -- From a state on, every place's stack bytes end within `stepMost` for each argument.
+  -- From a state on, every place's stack bytes end at most `pMost` after its p.
   places-low : (s : ByRules) (ks : List ℕ) → KindsBelow (sheet .head .kinds) ks → (i : ℕ)
-      → stackEnd (getD (placesFrom (byRules sheet) s ks) i Nowhere) ≤ s .p .0 + stepMost * length ks
+      → stackEnd (getD (placesFrom (byRules sheet) s ks) i Nowhere) ≤ s .p .0 + pMost (length ks)
   unfolding placesFrom KindsBelow
   places-low s [] below i = omega arith
   places-low s (k ∷ ks) below zero = omega (arith, stack-end (sheet .head) (sheetKind sheet k) (read .head) (read .kind k (below .0)) s)
@@ -134,7 +134,7 @@ module _ (sheet : Sheet) (read : SheetRead sheet) where
 
       pub offset-most : (i : ℕ) (offset : Offset) (count : ℕ) → getD (places sheet ks) i Nowhere ≡ Stack offset count → offset .0 + count ≤ pMost argumentLimit
       offset-most i offset count e =
-          let low : stackEnd (Stack offset count) ≤ 0 + stepMost * length ks = rw e at (places-low (byRules sheet .begin) ks below i) in
+          let low : stackEnd (Stack offset count) ≤ 0 + pMost (length ks) = rw e at (places-low (byRules sheet .begin) ks below i) in
           omega arith
 
       -- So the four bytes of its record are the offset.

@@ -10,11 +10,11 @@ use Rattle.convention.specs.declared.Sheet.{Sheet}
 use Rattle.convention.specs.declared.ByRules.{ByRules}
 use Rattle.convention.specs.Bytes.{written}
 use Rattle.convention.specs.Sheets.{sheetKind}
-use Rattle.convention.specs.Lists.{recordLength, recordOf}
+use Rattle.convention.specs.Lists.{recordLength, recordOf, records}
 use Rattle.convention.specs.Rules.{placeFault, byRules, rulesBegin}
 use Rattle.convention.proofs.Lists.{known}
-use Rattle.stepping.specs.Walks.{WalkIs, recordsBefore}
-use Rattle.convention.specs.Shapes.{stepMost}
+use Rattle.stepping.specs.Walks.{WalkIs}
+use Rattle.convention.specs.Shapes.{pMost}
 use Rattle.stepping.proofs.Walks.{walk-begin, walk-on, walk-hit, walk-end, write-begin, write-on, write-end}
 use Rattle.placing.specs.RulesSteps.{RulesStepAsks, RulesStepIs, RulesListAsks, RulesStanding, RulesWriting}
 use Rattle.placing.proofs.Steps.{p-grows}
@@ -29,7 +29,7 @@ module _ (sheet : Sheet) (ks : List ℕ) (i : ℕ) (asks : RulesListAsks sheet k
 
   module _ (s : ByRules) where
     -- Its step can be taken.
-    pub next-asks : s .p .0 ≤ stepMost * i → RulesStepAsks (sheet .head) (sheetKind sheet (getD ks i 0)) s
+    pub next-asks : s .p .0 ≤ pMost i → RulesStepAsks (sheet .head) (sheetKind sheet (getD ks i 0)) s
     next-asks reach = record {
       head = asks .read .head;
       kind = asks .read .kind _ kind-known;
@@ -37,7 +37,7 @@ module _ (sheet : Sheet) (ks : List ℕ) (i : ℕ) (asks : RulesListAsks sheet k
     }
 
     module _ (place : Placement) (next : ByRules) (step : RulesStepIs (sheet .head) (sheetKind sheet (getD ks i 0)) s place next) where
-      next-reach : s .p .0 ≤ stepMost * i → next .p .0 ≤ stepMost * (i + 1)
+      next-reach : s .p .0 ≤ pMost i → next .p .0 ≤ pMost (i + 1)
       next-reach reach =
           rw (step .reached) (omega (arith, reach, p-grows (sheet .head) _ s (asks .read .head) (asks .read .kind _ kind-known)))
 
@@ -72,5 +72,5 @@ module _ (sheet : Sheet) (ks : List ℕ) where
   writing-begin before s e = rw e (record { writes = write-begin (byRules sheet) ks before; reach = omega arith })
 
   pub writing-end : (before out : List ℕ) (s : ByRules) (i : ℕ) → RulesWriting sheet ks before s i out → length ks ≤ i
-      → out ≡ recordsBefore (byRules sheet) ks before
+      → out ≡ written before 0 (records (byRules sheet) ks)
   writing-end before out s i writing h = write-end (byRules sheet) ks before out s i (writing .writes) h

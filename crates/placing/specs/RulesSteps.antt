@@ -13,7 +13,7 @@ use Rattle.convention.specs.Promised.{HeadRead, SheetKindRead, SheetRead}
 use Rattle.convention.specs.Lists.{recordLength}
 use Rattle.convention.specs.Rules.{skippedOf, rulesPlace, rulesAfter, byRules}
 use Rattle.stepping.specs.Walks.{WalkRest, WriteRest, Listed}
-use Rattle.convention.specs.Shapes.{stepMost}
+use Rattle.convention.specs.Shapes.{stepMost, pMost}
 
 -- The run of `count` registers of each start of a kind lies within the sixteen.
 pub record RunsWithin (kind : SheetKind) (count : ℕ) : Type 0 where
@@ -60,9 +60,9 @@ pub record RoomAsks (sheet : Sheet) (ks out : List ℕ) : Type 0 where
 -- Half way through a list, before argument i: what is left answers the whole, and p is no further than i arguments can take it.
 pub record RulesStanding (sheet : Sheet) (ks : List ℕ) (s : ByRules) (i : ℕ) : Type 0 where
   pub walk : WalkRest (byRules sheet) ks s i
-  pub reach : s .p .0 ≤ stepMost * i
+  pub reach : s .p .0 ≤ pMost i
 
 -- The same half way through writing.
 pub record RulesWriting (sheet : Sheet) (ks before : List ℕ) (s : ByRules) (i : ℕ) (out : List ℕ) : Type 0 where
   pub writes : WriteRest (byRules sheet) ks before s i out
-  pub reach : s .p .0 ≤ stepMost * i
+  pub reach : s .p .0 ≤ pMost i

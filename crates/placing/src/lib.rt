@@ -15,8 +15,10 @@ ghost use mathlib.Core.Path.{_≡_};
 ghost use lib.ListN.{length, take};
 ghost use Rattle.convention.specs.Numbers.{argumentLimit};
 ghost use Rattle.convention.specs.Promised.{SheetRead};
+ghost use Rattle.convention.specs.Bytes.{written};
+ghost use Rattle.convention.specs.Lists.{records};
 ghost use Rattle.convention.specs.Rules.{skippedBefore, markRuns, startsOf, rulesPlace, rulesAfter, byRules, placeByRules, rulesMemory, rulesBegin};
-ghost use Rattle.stepping.specs.Walks.{WalkIs, recordsBefore, PlacingIs};
+ghost use Rattle.stepping.specs.Walks.{WalkIs, PlacingIs};
 ghost use Rattle.placing.specs.RulesSteps.{RunsWithin, RunsTried, RulesStepAsks, Searched, PlaceFound, RulesStepIs, RulesListAsks, RoomAsks};
 
 // How many starts of a kind that needs `count` registers are tried and not taken: those before the first whose run is
@@ -153,7 +155,7 @@ fn walk(sheet: Sheet, list: &[u8]) -> Walk
 // Writes the records of a list of known kinds, one after the other, and leaves the bytes after them untouched.
 fn write_list(sheet: Sheet, list: &[u8], out: &mut [u8])
     requires { ⌜ RoomAsks sheet (now list) (now out) ⌝ }
-    ensures { λ _. ⌜ now (out .exit) ≡ recordsBefore (byRules sheet) (now (list .entry)) (now (out .entry)) ⌝ }
+    ensures { λ _. ⌜ now (out .exit) ≡ written (now (out .entry)) 0 (records (byRules sheet) (now (list .entry))) ⌝ }
 {
     let head = sheet.head;
     let mut s = begin();

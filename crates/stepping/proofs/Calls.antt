@@ -12,10 +12,11 @@ use Rattle.convention.specs.declared.Offset.{Offset}
 use Rattle.convention.specs.declared.PlacingAnswer.{PlacingAnswer}
 use Rattle.convention.specs.declared.PlacingAnswer.the-variants.{Placed, Faulty, Unknown}
 use Rattle.convention.specs.Numbers.{orElse, unless}
-use Rattle.convention.specs.Lists.{Steps, recordLength, unknownAt, listNo, walkAnswer, placing, placingMemory}
+use Rattle.convention.specs.Bytes.{written}
+use Rattle.convention.specs.Lists.{Steps, recordLength, records, unknownAt, listNo, walkAnswer, placing, placingMemory}
 use Rattle.convention.proofs.Lists.{unknown-le}
 use Rattle.convention.proofs.Numbers.{or-zero, or-first, or-keeps, unless-zero}
-use Rattle.stepping.specs.Walks.{WalkIs, recordsBefore, ListTested, refusalAnswer, PlacingIs}
+use Rattle.stepping.specs.Walks.{WalkIs, ListTested, refusalAnswer, PlacingIs}
 
 -- The room is divided so that nothing overflows.
 pub list-no : (limit n room many narrow number : ℕ) → many ≡ unless (leb n limit) 8 → narrow ≡ unless (leb n (room / recordLength)) 12
@@ -122,7 +123,7 @@ module _ (limit m : ℕ) (M : Steps) (ks before : List ℕ) (number at : ℕ) (t
     unfolding placingMemory
     list-faulty nz = record { answers = walked; memory = rw (er, ← walk-faulty fault stop (length ks) p nz) }
 
-    pub list-placed : (after : List ℕ) → fault ≡ 0 → after ≡ recordsBefore M ks before → PlacingIs limit m M ks before r after
+    pub list-placed : (after : List ℕ) → fault ≡ 0 → after ≡ written before 0 (records M ks) → PlacingIs limit m M ks before r after
     unfolding placingMemory
     list-placed after none ea = record { answers = walked; memory = rw (er, ← walk-placed fault stop (length ks) p none) ea }
 

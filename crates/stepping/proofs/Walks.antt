@@ -12,7 +12,7 @@ use Rattle.convention.specs.Bytes.{written}
 use Rattle.convention.specs.Lists.{Steps, placesFrom, recordOf, recordsOf, recordLength, records}
 use Rattle.convention.proofs.Bytes.{length-written}
 use Rattle.convention.proofs.Lists.{fault-turn, fault-hit, fault-end, stop-turn, stop-hit, stop-end, state-turn, state-end, records-turn, records-length, places-length}
-use Rattle.stepping.specs.Walks.{WalkIs, WalkRest, WriteRest, recordsBefore}
+use Rattle.stepping.specs.Walks.{WalkIs, WalkRest, WriteRest}
 
 -- One more run written after the first n bytes of R, which stand in front.
 pasted : (R before : List ℕ) (n : ℕ) (bs rest : List ℕ) → n ≤ length R → drop n R ≡ bs ++ rest
@@ -92,7 +92,7 @@ module _ (M : Steps) (ks : List ℕ) where
             long = rw ea (length-written out (recordLength * i) (recordOf place) write-room) ∙ half .long;
           }
 
-    pub write-end : length ks ≤ i → out ≡ recordsBefore M ks before
+    pub write-end : length ks ≤ i → out ≡ written before 0 (records M ks)
     write-end h =
         let all : recordLength * i ≡ length (records M ks) = omega (arith, records-long, half .within) in
-        half .written ∙ rw (all, take-all (length (records M ks)) (records M ks) (le-refl _))
+        half .written ∙ rw (all, take-all (length (records M ks)) (records M ks) (le-refl _), zero-add)

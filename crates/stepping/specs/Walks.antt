@@ -32,10 +32,6 @@ pub record WriteRest (M : Steps) (ks : List ℕ) (before : List ℕ) (s : M .Sta
   pub rest : recordsOf (placesFrom M s (drop i ks)) ≡ drop (recordLength * i) (records M ks)
   pub long : length out ≡ length before
 
--- The records of a list, and after them the bytes that stood there before.
-abbrev pub recordsBefore : (M : Steps) → List ℕ → List ℕ → List ℕ
-recordsBefore M ks before = records M ks ++ drop (length (records M ks)) before
-
 -- A list of known kinds, of no more arguments than the limit.
 pub record Listed (limit m : ℕ) (ks : List ℕ) : Type 0 where
   pub known : unknownAt m ks ≡ length ks

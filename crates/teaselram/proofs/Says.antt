@@ -22,7 +22,7 @@ use Rattle.convention.specs.Lists.{Steps, recordLength, unknownAt, faultFrom, s
 use Rattle.convention.specs.Sheets.{sheetKindAt, sheetNo, sheetOf, readSheet, sheetKind}
 use Rattle.convention.specs.Rules.{byRules, placeByRules}
 use Rattle.convention.specs.Walked.{byTable, placeByTable}
-use Rattle.convention.specs.Built.{builtStates, builtTable, buildNo, builtOrRefused, build, statesNumber}
+use Rattle.convention.specs.Built.{builtStates, builtTable, buildNo, builtOrRefused, build, manyStatesNo}
 use Rattle.convention.specs.Judged.{Judges}
 use Rattle.convention.proofs.Lists.{stop-le}
 use Rattle.convention.proofs.Numbers.{or-zero, or-first, or-later, unless-zero}
@@ -224,7 +224,7 @@ length-fits s room building e = rw e (omega (arith, most (buildNo stateLimit s r
         let both = or-zero (sheetNo s) _ z in
         omega (
           arith,
-          built-most stateLimit s (both .0) (or-zero (statesNumber stateLimit (sheetOf s)) _ (both .1) .0),
+          built-most stateLimit s (both .0) (or-zero (manyStatesNo stateLimit (sheetOf s)) _ (both .1) .0),
           length-said 1,
         )
     most (suc n) z = omega arith

@@ -1,5 +1,5 @@
 -- What placing by a table gives where no step is faulty: places that are right for their kinds and apart from one another, and a p within bounds.
-use Prim.Native.Nat.{ℕ, zero, suc, _+_, _*_, _≤_, _<_, _∣_}
+use Prim.Native.Nat.{ℕ, zero, suc, _+_, _≤_, _<_, _∣_}
 use mathlib.Core.Path.{_≡_, refl, _∙_}
 use mathlib.Core.Logic.{inl, inr}
 use mathlib.Core.Bool.{Bool}
@@ -27,7 +27,7 @@ use Rattle.convention.proofs.Offsets.{least-ge, offset-residue}
 use Rattle.convention.proofs.Promised.{known-divides, known-run, known-sixteen, known-residue, known-next}
 use Rattle.convention.proofs.Tables.{table-read}
 use Rattle.convention.proofs.Walked.{step-cases, registers-clean, stack-clean}
-use Rattle.convention.specs.Shapes.{stepMost, pMost}
+use Rattle.convention.specs.Shapes.{pMost}
 use Rattle.stepping.proofs.Accepted.{accepted}
 use Rattle.stepping.proofs.Apart.{FreeIn, FromP, StepGives, place-length, apart, p-most}
 use Rattle.walking.proofs.Steps.{reach, step-ends}
@@ -127,7 +127,7 @@ module _ (limit : ℕ) (table : Table) (t : List ℕ) (read : TableRead limit ta
         (byTable table t .begin) ks begin-walking below e
 
     -- The final p.
-    pub table-final : stateFrom (byTable table t) (byTable table t .begin) ks .p .0 ≤ stepMost * length ks
+    pub table-final : stateFrom (byTable table t) (byTable table t .begin) ks .p .0 ≤ pMost (length ks)
     table-final =
         omega (
           arith,

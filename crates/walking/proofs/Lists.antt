@@ -9,13 +9,13 @@ use Rattle.convention.specs.declared.ByTable.{ByTable}
 use Rattle.convention.specs.declared.Placement.{Placement}
 use Rattle.convention.specs.declared.Transition.{Transition}
 use Rattle.convention.specs.declared.Offset.{Offset}
-use Rattle.convention.specs.Lists.{recordLength, recordOf}
+use Rattle.convention.specs.Lists.{recordLength, recordOf, records}
 use Rattle.convention.specs.Bytes.{written}
 use Rattle.convention.specs.Tables.{tableKind, transition}
 use Rattle.convention.specs.Walked.{byTable, walkBegin}
 use Rattle.convention.proofs.Lists.{known, turn-free}
 use Rattle.table.specs.Within.{InTable}
-use Rattle.stepping.specs.Walks.{WalkIs, recordsBefore}
+use Rattle.stepping.specs.Walks.{WalkIs}
 use Rattle.stepping.proofs.Walks.{walk-begin, walk-on, walk-hit, walk-end, write-begin, write-on, write-end}
 use Rattle.walking.specs.TableSteps.{ArgumentAsks, CheckAsks, CheckIs, ArgumentIs, WalkAsks, WriteAsks, TableStanding, TableWriting}
 use Rattle.walking.proofs.Steps.{check-asks, next-state, next-reach}
@@ -89,5 +89,5 @@ module _ (table : Table) (t ks before : List ℕ) (asks : WriteAsks table t ks b
             writes = write-on (byTable table t) ks before out s i (writing .writes) h (asks .room) after next place (argument .placed) ea (argument .after);
           }
 
-    pub writing-end : length ks ≤ i → out ≡ recordsBefore (byTable table t) ks before
+    pub writing-end : length ks ≤ i → out ≡ written before 0 (records (byTable table t) ks)
     writing-end h = write-end (byTable table t) ks before out s i (writing .writes) h

@@ -18,19 +18,23 @@ use Rattle.convention.specs.Walked.{tablePlace, tableFault, tableAfter, byTable
 use Rattle.convention.specs.Promised.{TableRead}
 use Rattle.table.specs.Within.{InTable}
 use Rattle.stepping.specs.Walks.{WalkRest, WriteRest, Listed}
-use Rattle.convention.specs.Shapes.{stepMost}
+use Rattle.convention.specs.Shapes.{pMost}
 
 -- A transition of a table that was read, for a kind of it: where it gives registers, its run ends within the sixteen.
 pub record FaultAsks (shape : Shape) (x : Transition) : Type 0 where
   pub run : x .form ≡ 1 → x .a + x .b ≤ 16
   pub aligned : 0 < shape .alignment
 
+-- The most that p grows by in a step whose fault was not looked at: 15 bytes that are skipped, and 255 that are taken.
+abbrev pub anyStepMost : ℕ
+anyStepMost = 270
+
 -- The same, from a p that leaves room for one more argument.
 pub record PlaceAsks (h : Head) (x : Transition) (s : ByTable) : Type 0 where
   pub run : x .form ≡ 1 → x .a + x .b ≤ 16
   pub residue : x .form ≡ 2 → x .a < h .modulus
   pub modulus : h .modulus ≤ 16
-  pub room : s .p .0 + 512 < 2 ^ 32
+  pub room : s .p .0 + anyStepMost < 2 ^ 32
 
 -- One step's place and the state after it.
 pub record TableStepIs (h : Head) (x : Transition) (s : ByTable) (place : Placement) (next : ByTable) : Type 0 where
@@ -51,7 +55,7 @@ pub record CheckIs (h : Head) (shape : Shape) (x : Transition) (s : ByTable) (fa
 pub record ArgumentAsks (table : Table) (t : List ℕ) (s : ByTable) (k : ℕ) : Type 0 where
   pub read : TableRead stateLimit table t
   pub inside : InTable table (s .state) k
-  pub reach : s .p .0 ≤ stepMost * argumentLimit
+  pub reach : s .p .0 ≤ pMost argumentLimit
 
 -- Its place, and the state after it.
 pub record ArgumentIs (table : Table) (t : List ℕ) (s : ByTable) (k : ℕ) (place : Placement) (next : ByTable) : Type 0 where
@@ -88,7 +92,7 @@ pub record WriteAsks (table : Table) (t ks out : List ℕ) : Type 0 where
 pub record TableStanding (table : Table) (t ks : List ℕ) (s : ByTable) (i : ℕ) : Type 0 where
   pub walk : WalkRest (byTable table t) ks s i
   pub state : s .state < table .states
-  pub reach : s .p .0 ≤ stepMost * i
+  pub reach : s .p .0 ≤ pMost i
 
 -- The same half way through writing.
 pub record TableWriting (table : Table) (t ks before : List ℕ) (s : ByTable) (i : ℕ) (out : List ℕ) : Type 0 where

@@ -17,9 +17,10 @@ ghost use Prim.Native.Nat.{_+_, _≤_, _<_};
 ghost use lib.ListN.{length};
 ghost use Rattle.convention.specs.Numbers.{stateLimit, argumentLimit};
 ghost use Rattle.convention.specs.Promised.{TableRead};
-ghost use Rattle.convention.specs.Lists.{faultFrom};
+ghost use Rattle.convention.specs.Lists.{faultFrom, records};
+ghost use Rattle.convention.specs.Bytes.{written};
 ghost use Rattle.convention.specs.Walked.{registersFault, stackFault, tableFault, tablePlace, byTable, placeByTable, tableMemory, walkBegin};
-ghost use Rattle.stepping.specs.Walks.{WalkIs, PlacingIs, recordsBefore};
+ghost use Rattle.stepping.specs.Walks.{WalkIs, PlacingIs};
 ghost use Rattle.walking.specs.TableSteps.{FaultAsks, PlaceAsks, TableStepIs, ArgumentAsks, CheckAsks, CheckIs, ArgumentIs, KnownAsks, WalkAsks, WriteAsks, givenAfter};
 
 // Faults 2 and 3 of a step that gives registers.
@@ -209,7 +210,7 @@ pub fn list_fault(table: Table, t: &[u8], list: &[u8]) -> u8
 // Writes the records of a list of known kinds that has no faulty step.
 fn write_list(table: Table, t: &[u8], list: &[u8], out: &mut [u8])
     requires { ⌜ WriteAsks table (now t) (now list) (now out) ⌝ }
-    ensures { λ _. ⌜ now (out .exit) ≡ recordsBefore (byTable table (now (t .entry))) (now (list .entry)) (now (out .entry)) ⌝ }
+    ensures { λ _. ⌜ now (out .exit) ≡ written (now (out .entry)) 0 (records (byTable table (now (t .entry))) (now (list .entry))) ⌝ }
 {
     let mut s = begin();
     let mut i = 0;
