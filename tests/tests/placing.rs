@@ -2,7 +2,10 @@
 
 use comparison::{compare, damage, refused, rounds, Numbers, MOST};
 use reference::samples::{self, Xorshift, S};
-use reference::{Head, Refusal, Table, TableKind, Transition};
+use reference::{Head, Placed, Refusal, Sheet, SheetKind, Table, TableKind, Transition};
+
+/// What an alignment may be, and a stack modulus.
+const ALIGNMENTS: [u8; 5] = [1, 2, 4, 8, 16];
 
 /// Lists of these lengths are placed by seeded sheets and tables.
 const LENGTHS: [usize; 5] = [0, 1, 20, 400, 401];
@@ -44,6 +47,31 @@ fn request(random: &mut Xorshift, kinds: u8, length: usize) -> (Vec<u8>, usize) 
         room = random.below(6 * length);
     }
     (list, room)
+}
+
+/// A head without registers.
+fn on_stack(modulus: u8, kinds: u8) -> Head {
+    Head {
+        registers: 0,
+        width: 1,
+        modulus,
+        kinds,
+    }
+}
+
+/// 01's words for a stack offset: the least, at least p, with that remainder.
+fn least(p: u8, modulus: u8, residue: u8) -> u8 {
+    (p..)
+        .find(|offset| offset % modulus == residue)
+        .expect("each remainder comes again")
+}
+
+/// Asserts where the one byte of kind 1 goes, after one argument of kind 0 that takes p bytes, or after none where p is 0.
+fn goes_to(offset: u8, p: u8, place: impl FnOnce(&[u8]) -> Result<Placed, Refusal>) {
+    let kinds: &[u8] = if p == 0 { &[1] } else { &[0, 1] };
+    let placed = place(kinds).expect("both have a place");
+    assert!(placed.records.ends_with(&record(2, offset, 1)), "p = {p}");
+    assert_eq!(placed.p, u32::from(offset) + 1);
 }
 
 #[test]
@@ -164,12 +192,7 @@ fn the_largest_p() {
         next: (state + 1) % 16,
     };
     let table = Table {
-        head: Head {
-            registers: 0,
-            width: 1,
-            modulus: 16,
-            kinds: 1,
-        },
+        head: on_stack(16, 1),
         kinds: vec![TableKind {
             size: 64,
             alignment: 1,
@@ -179,6 +202,48 @@ fn the_largest_p() {
     let placed = compare::place_by_table(&table.bytes(), &[0; 400], 2400).expect("400 fit");
     assert_eq!(placed.p, 31_600);
     assert_eq!(placed.records[2394..], [2, 0, 0, 0x7B, 0x30, 64]);
+}
+
+#[test]
+fn every_aligned_offset() {
+    let kind = |size, alignment| SheetKind {
+        size,
+        alignment,
+        flags: 1,
+        starts: vec![],
+    };
+    for (p, alignment) in (0..=64).flat_map(|p| ALIGNMENTS.map(|alignment| (p, alignment))) {
+        let sheet = Sheet {
+            head: on_stack(16, 2),
+            kinds: vec![kind(p.max(1), 1), kind(1, alignment)],
+        };
+        goes_to(least(p, alignment, 0), p, |kinds| {
+            compare::place_by_rules(&sheet.bytes(), kinds, 12)
+        });
+    }
+}
+
+#[test]
+fn every_residue() {
+    let kind = |size| TableKind { size, alignment: 1 };
+    let step = |a, b| Transition {
+        form: 2,
+        a,
+        b,
+        next: 0,
+    };
+    for (p, modulus) in (0..=64).flat_map(|p| ALIGNMENTS.map(|modulus| (p, modulus))) {
+        for residue in 0..modulus {
+            let table = Table {
+                head: on_stack(modulus, 2),
+                kinds: vec![kind(p.max(1)), kind(1)],
+                rows: vec![vec![step(0, p.max(1)), step(residue, 1)]],
+            };
+            goes_to(least(p, modulus, residue), p, |kinds| {
+                compare::place_by_table(&table.bytes(), kinds, 12)
+            });
+        }
+    }
 }
 
 #[test]

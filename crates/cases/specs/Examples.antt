@@ -60,3 +60,17 @@ faultLine =
 -- `refused 1`, for `00`.
 abbrev pub refusedOne : List ℕ
 refusedOne = 114 ∷ 101 ∷ 102 ∷ 117 ∷ 115 ∷ 101 ∷ 100 ∷ 32 ∷ 49 ∷ 10 ∷ []
+
+-- 'the least offset, at least p, whose remainder by A is the residue'.
+pub record OffsetCase : Type 0 where
+  pub p : ℕ
+  pub modulus : ℕ
+  pub residue : ℕ
+  pub gives : ℕ
+
+abbrev pub offset : ℕ → ℕ → ℕ → ℕ → OffsetCase
+offset p modulus residue gives = record { p = p; modulus = modulus; residue = residue; gives = gives }
+
+-- 'p = 5, A = 8, residue 4 gives 4 + 8 = 12'; p that has the remainder already; p = 0, which has it and has not.
+abbrev pub offsetCases : List OffsetCase
+offsetCases = offset 5 8 4 12 ∷ offset 12 8 4 12 ∷ offset 0 8 0 0 ∷ offset 0 8 4 4 ∷ []

@@ -3,7 +3,7 @@ use Prim.Native.Nat.{ℕ}
 use mathlib.Core.List.{List, [], _∷_, _++_}
 use lib.ListN.{replicate}
 use Rattle.convention.specs.Numbers.{refusal}
-use Rattle.cases.specs.Cases.{byRulesIn, byTableIn, askRow, judge, place, lentFor, refused, cleanOutcome, simple, stacklessDouble, oneTransition, char, int, double, Case, _⟹_}
+use Rattle.cases.specs.Cases.{byRulesIn, byTableIn, askRow, judge, place, lentFor, onStack, placed, refused, cleanOutcome, simple, stacklessDouble, oneTransition, char, int, double, Case, _⟹_}
 
 -- A kind that S does not have.
 abbrev pub unknown : ℕ
@@ -32,6 +32,10 @@ wrongFormCut = 0x00 ∷ 0x0B ∷ 0x01 ∷ 0x01 ∷ 0x04 ∷ 0x04 ∷ 0x01 ∷ 0x
 abbrev pub deadRow : List ℕ
 deadRow = 0x00 ∷ 0x10 ∷ 0x01 ∷ 0x01 ∷ 0x04 ∷ 0x04 ∷ 0x01 ∷ 0x04 ∷ 0x04 ∷ 0x02 ∷ 0x02 ∷ 0x00 ∷ 0x04 ∷ 0x00 ∷ 0x00 ∷ 0x00 ∷ 0x00 ∷ 0x00 ∷ []
 
+-- No register and A = 8: a kind of 5 bytes with residue 0, and one of 4 bytes with residue 4.
+abbrev pub residues : List ℕ
+residues = 0x00 ∷ 0x12 ∷ 0x01 ∷ 0x00 ∷ 0x04 ∷ 0x08 ∷ 0x02 ∷ 0x05 ∷ 0x01 ∷ 0x04 ∷ 0x04 ∷ 0x01 ∷ 0x02 ∷ 0x00 ∷ 0x05 ∷ 0x00 ∷ 0x02 ∷ 0x04 ∷ 0x04 ∷ 0x00 ∷ []
+
 abbrev pub settled : List Case
 settled =
     -- 'placing: 8, 12, 9, 10': each before those after it.
@@ -43,6 +47,8 @@ settled =
     -- Fault 2 before fault 3: the second argument's register was given, and is too small for it; alone it has fault 3.
     ∷ (byTableIn shared (0 ∷ 1 ∷ []) (lentFor (0 ∷ 1 ∷ [])) ⟹ refused 10 1 2 (lentFor (0 ∷ 1 ∷ [])))
     ∷ (byTableIn shared (1 ∷ []) (lentFor (1 ∷ [])) ⟹ refused 10 0 3 (lentFor (1 ∷ [])))
+    -- 'p = 5, A = 8, residue 4 gives 4 + 8 = 12'.
+    ∷ (byTableIn residues (0 ∷ 1 ∷ []) (lentFor (0 ∷ 1 ∷ [])) ⟹ placed 2 16 (onStack 0 5 ++ onStack 12 4))
     -- Number 7 'when its four bytes are there', and 3 where one is missing.
     ∷ (byTableIn wrongForm [] [] ⟹ refused 7 0 0 [])
     ∷ (byTableIn wrongFormCut [] [] ⟹ refused 3 0 0 [])

@@ -1,13 +1,14 @@
 -- Laws of the least offset, for every modulus at once; and of the widths and moduli that a head may have.
-use Prim.Native.Nat.{ℕ, _+_, _-_, _/_, _%_, _≤_, _<_, _∣_}
+use Prim.Native.Nat.{ℕ, _+_, _-_, _/_, _%_, _^_, _≤_, _<_, _∣_}
 use mathlib.Core.Path.{_≡_, refl, sym, subst, _∙_}
 use mathlib.Core.Bool.{Bool, true, false, not, _&&_, _||_, and-eq-true-iff}
-use native.Mathlib.Nat.{le-refl, le-antisymm, le-of-suc-le-suc, lt-of-not-le, not-le-of-lt}
+use native.Mathlib.Nat.{le-antisymm, le-of-suc-le-suc, lt-of-not-le, not-le-of-lt}
 use native.Mathlib.Nat.{mod-lt, mod-eq-of-lt, mod-add-mod, add-mod-mod, add-mod-left, mod-mod-of-dvd}
 use native.Mathlib.Nat.{div-add-mod, dvd-mul-right, dvd-sub, le-of-dvd, dvd-of-mod-eq-zero}
 use native.Mathlib.Omega.{arith}
 use lib.Dec.{ltb, leb, eqb}
-use borrow.Author.Tests.{ltb-true, leb-true, le-leb, eqb-true}
+use lib.Bits.{bitAnd, and-mask}
+use borrow.Author.Tests.{ltb-true, leb-true, le-leb, eqb-true, eq-eqb}
 use Rattle.convention.specs.Fields.{isWidth, isModulus}
 use Rattle.convention.specs.Offsets.{IsLeast, leastOffset}
 
@@ -46,17 +47,6 @@ least-is m r p h = near-least (least-ge m r p) (least-lt m r p (omega arith)) re
 
 pub least-unique : {m r p o o′ : ℕ} → IsLeast m r p o → IsLeast m r p o′ → o ≡ o′
 least-unique a b = le-antisymm (a .least _ (b .at-least) (b .remainder)) (b .least _ (a .at-least) (a .remainder))
-
--- The two turns of counting upward one byte at a time: p has the remainder and is the offset; p has not, and p + 1 leads to the same.
-pub least-here : (m r p : ℕ) → 0 < m → p % m ≡ r → leastOffset m r p ≡ p
-least-here m r p h e = least-unique (least-is m r p (rw e at (mod-lt p h))) (near-least (le-refl p) (omega arith) e)
-
-pub least-further : (m r p : ℕ) → r < m → (p % m ≡ r → ⊥) → leastOffset m r (p + 1) ≡ leastOffset m r p
-least-further m r p h other =
-    let same = least-is m r p h .remainder in
-    let moved : leastOffset m r p ≡ p → ⊥ = λ e. other (rw e at same) in
-    least-unique (least-is m r (p + 1) h)
-    (near-least (omega (arith, least-ge m r p)) (omega (arith, least-lt m r p (omega arith))) same)
 
 -- Why a table and the rules agree: with the remainder of the rules' offset as its residue, the table gives that offset.
 pub aligned-residue : (a A p : ℕ) → 0 < a → 0 < A → a ∣ A → leastOffset A (leastOffset a 0 p % A) p ≡ leastOffset a 0 p
@@ -118,3 +108,13 @@ divides a b ha hb h =
   where
     test : ℕ → ℕ → Bool
     test k l = not (leb k l) || eqb (l % k) 0
+
+-- A modulus is a power of two, so a mask of the bits below it keeps the remainder.
+pub remainder-mask : (x a : ℕ) → isModulus a ≡ true → bitAnd x (a - 1) ≡ x % a
+remainder-mask x a h = eqb-true (bitAnd x (a - 1)) (x % a) (all-moduli kept (rw (power 0, power 1, power 2, power 3, power 4)) a h)
+  where
+    kept : ℕ → Bool
+    kept k = eqb (bitAnd x (k - 1)) (x % k)
+
+    power : (k : ℕ) → kept (2 ^ k) ≡ true
+    power k = eq-eqb (bitAnd x (2 ^ k - 1)) (x % 2 ^ k) (and-mask x k)

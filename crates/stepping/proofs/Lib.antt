@@ -1,4 +1,4 @@
-pub mod Counting
+pub mod Offsets
 pub mod Ends
 pub mod Lists
 pub mod Records

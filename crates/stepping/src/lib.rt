@@ -8,9 +8,11 @@ use convention::PlacingAnswer;
 use convention::RECORD_LENGTH;
 use convention::Reg;
 ghost use mathlib.Core.Path.{_≡_};
-ghost use Prim.Native.Nat.{_+_, _≤_, _<_, _^_};
+ghost use Prim.Native.Nat.{_+_, _%_, _≤_, _<_, _^_};
+ghost use mathlib.Core.Bool.{true};
 ghost use lib.ListN.{length};
-ghost use Rattle.convention.specs.Offsets.{leastOffset};
+ghost use Rattle.convention.specs.Fields.{isModulus};
+ghost use Rattle.convention.specs.Offsets.{IsLeast, leastOffset};
 ghost use Rattle.convention.specs.Bytes.{written};
 ghost use Rattle.convention.specs.Lists.{recordLength, unknownAt, listNo, partsOf, recordOf, walkAnswer};
 ghost use Rattle.convention.specs.Rules.{freeRun, markRun, placeFault, placeTaken, placeP};
@@ -58,16 +60,22 @@ pub fn mark_run(taken: [bool; 16], first: Reg, count: u8) -> [bool; 16]
     marked
 }
 
+// The remainder of `x` by a modulus, which is a power of two: what a mask keeps.
+fn remainder(x: u32, modulus: u32) -> u32
+    requires { ⌜ isModulus modulus ≡ true ⌝ }
+    ensures { λ r. ⌜ r ≡ x % modulus ⌝ }
+{
+    x & (modulus - 1)
+}
+
 // The least offset, at least `p`, whose remainder by `modulus` is `residue`.
 pub fn least_offset(modulus: u8, residue: u8, p: Offset) -> Offset
-    requires { ⌜ (residue < modulus) × (p .0 + modulus < 2 ^ 32) ⌝ }
+    requires { ⌜ (isModulus modulus ≡ true) × (residue < modulus) × (p .0 + modulus < 2 ^ 32) ⌝ }
     ensures { λ r. ⌜ r .0 ≡ leastOffset modulus residue (p .0) ⌝ }
+    ensures { λ r. ⌜ IsLeast modulus residue (p .0) (r .0) ⌝ }
 {
-    let mut offset = p.0;
-    while offset % modulus as u32 != residue as u32 {
-        offset += 1;
-    }
-    Offset(offset)
+    let m = modulus as u32;
+    Offset(p.0 + remainder(m + residue as u32 - remainder(p.0, m), m))
 }
 
 // The number of a list of so many arguments with so much room, before its kinds are looked at: 8 where there are more than

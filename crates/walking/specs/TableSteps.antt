@@ -1,7 +1,7 @@
 -- What the walker's functions ask of one another; all of it is promised of a table that was read.
 use Prim.Native.Nat.{ℕ, _+_, _*_, _≤_, _<_, _^_}
 use mathlib.Core.Path.{_≡_}
-use mathlib.Core.Bool.{Bool, cond}
+use mathlib.Core.Bool.{Bool, true, cond}
 use mathlib.Core.List.{List}
 use lib.Dec.{eqb}
 use lib.ListN.{length, drop}
@@ -12,6 +12,7 @@ use Rattle.convention.specs.declared.ByTable.{ByTable}
 use Rattle.convention.specs.declared.Placement.{Placement}
 use Rattle.convention.specs.declared.Table.{Table}
 use Rattle.convention.specs.Numbers.{stateLimit, argumentLimit}
+use Rattle.convention.specs.Fields.{isModulus}
 use Rattle.convention.specs.Rules.{markRun}
 use Rattle.convention.specs.Lists.{unknownAt, faultFrom, recordLength}
 use Rattle.convention.specs.Walked.{tablePlace, tableFault, tableAfter, byTable, walkBegin}
@@ -33,7 +34,7 @@ anyStepMost = 270
 pub record PlaceAsks (h : Head) (x : Transition) (s : ByTable) : Type 0 where
   pub run : x .form ≡ 1 → x .a + x .b ≤ 16
   pub residue : x .form ≡ 2 → x .a < h .modulus
-  pub modulus : h .modulus ≤ 16
+  pub modulus : isModulus (h .modulus) ≡ true
   pub room : s .p .0 + anyStepMost < 2 ^ 32
 
 -- One step's place and the state after it.

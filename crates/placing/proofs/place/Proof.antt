@@ -14,7 +14,7 @@ returns : tie.Need-returns
 returns c = search (place-registers, needs)
 
 least-offset-requires : tie.Need-least-offset-requires
-least-offset-requires c κs = (search (aligned, needs), search (offset-room, needs))
+least-offset-requires c κs = (search needs, search (aligned, needs), search (offset-room, needs))
 
 stack-bytes-requires : tie.Need-stack-bytes-requires
 stack-bytes-requires c κs = search needs

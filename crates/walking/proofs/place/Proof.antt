@@ -1,6 +1,6 @@
 -- `place`: the form says which place it is.
 use borrow.Author.Tests.{eq-eqb, ne-eqb}
-use native.Mathlib.Omega.{arith}
+use Rattle.walking.proofs.Steps.{offset-room}
 use Rattle.walking.proofs.place.Statement.{statement}
 use Rattle.walking.proofs.place.Tie as tie
 
@@ -8,10 +8,12 @@ returns : tie.Need-returns
 returns c = rw (eq-eqb _ _ (c .if1 .taken))
 
 least-offset-requires : tie.Need-least-offset-requires
-least-offset-requires c κs = (c .before .before .before .before .before .pre .residue (c .before .if2 .taken), omega (arith, c .before .before .before .before .before .pre))
+least-offset-requires c κs =
+    let asks = c .before .before .before .before .before .pre in
+    (asks .modulus, asks .residue (c .before .if2 .taken), offset-room _ _ _ asks)
 
 returns-2 : tie.Need-returns-2
-returns-2 c = rw (ne-eqb _ _ (c .before .before .before .before .if1 .left), eq-eqb _ _ (c .before .before .if2 .taken), ← c .least-offset .ensures)
+returns-2 c = rw (ne-eqb _ _ (c .before .before .before .before .if1 .left), eq-eqb _ _ (c .before .before .if2 .taken), ← c .least-offset .ensures .0)
 
 returns-3 : tie.Need-returns-3
 returns-3 c = rw (ne-eqb _ _ (c .before .before .if1 .left), ne-eqb _ _ (c .if2 .left))
