@@ -10,7 +10,9 @@ pub const S: [u8; 30] = [
     0x04, 0x01, 0x04, 0x00, 0x01, 0x02, 0x03, 0x08, 0x08, 0x01, 0x03, 0x00, 0x01, 0x02,
 ];
 
-const ALIGNMENTS: [u8; 5] = [1, 2, 4, 8, 16];
+/// What a stack modulus or an alignment may be.
+pub const ALIGNMENTS: [u8; 5] = [1, 2, 4, 8, 16];
+
 const WIDTHS: [u8; 4] = [1, 2, 4, 8];
 
 /// 01, "Examples to settle the reading": sheet S with its kind double changed.

@@ -1,11 +1,8 @@
-//! Placing by the rules and by a table: the examples of document 01 and seeded input, the library beside the second program.
+//! Placing by the rules and by a table: the examples of document 01, offsets from every p up to 64, and seeded input, the library beside the second program.
 
 use comparison::{compare, damage, refused, rounds, Numbers, MOST};
-use reference::samples::{self, Xorshift, S};
+use reference::samples::{self, Xorshift, ALIGNMENTS, S};
 use reference::{Head, Placed, Refusal, Sheet, SheetKind, Table, TableKind, Transition};
-
-/// What an alignment may be, and a stack modulus.
-const ALIGNMENTS: [u8; 5] = [1, 2, 4, 8, 16];
 
 /// Lists of these lengths are placed by seeded sheets and tables.
 const LENGTHS: [usize; 5] = [0, 1, 20, 400, 401];
@@ -50,7 +47,7 @@ fn request(random: &mut Xorshift, kinds: u8, length: usize) -> (Vec<u8>, usize) 
 }
 
 /// A head without registers.
-fn on_stack(modulus: u8, kinds: u8) -> Head {
+fn without_registers(modulus: u8, kinds: u8) -> Head {
     Head {
         registers: 0,
         width: 1,
@@ -70,7 +67,8 @@ fn least(p: u8, modulus: u8, residue: u8) -> u8 {
 fn goes_to(offset: u8, p: u8, place: impl FnOnce(&[u8]) -> Result<Placed, Refusal>) {
     let kinds: &[u8] = if p == 0 { &[1] } else { &[0, 1] };
     let placed = place(kinds).expect("both have a place");
-    assert!(placed.records.ends_with(&record(2, offset, 1)), "p = {p}");
+    let last = &placed.records[placed.records.len() - 6..];
+    assert_eq!(last, record(2, offset, 1), "from p = {p}");
     assert_eq!(placed.p, u32::from(offset) + 1);
 }
 
@@ -192,7 +190,7 @@ fn the_largest_p() {
         next: (state + 1) % 16,
     };
     let table = Table {
-        head: on_stack(16, 1),
+        head: without_registers(16, 1),
         kinds: vec![TableKind {
             size: 64,
             alignment: 1,
@@ -214,7 +212,7 @@ fn every_aligned_offset() {
     };
     for (p, alignment) in (0..=64).flat_map(|p| ALIGNMENTS.map(|alignment| (p, alignment))) {
         let sheet = Sheet {
-            head: on_stack(16, 2),
+            head: without_registers(16, 2),
             kinds: vec![kind(p.max(1), 1), kind(1, alignment)],
         };
         goes_to(least(p, alignment, 0), p, |kinds| {
@@ -235,7 +233,7 @@ fn every_residue() {
     for (p, modulus) in (0..=64).flat_map(|p| ALIGNMENTS.map(|modulus| (p, modulus))) {
         for residue in 0..modulus {
             let table = Table {
-                head: on_stack(modulus, 2),
+                head: without_registers(modulus, 2),
                 kinds: vec![kind(p.max(1)), kind(1)],
                 rows: vec![vec![step(0, p.max(1)), step(residue, 1)]],
             };

@@ -1,4 +1,4 @@
--- 01's other examples: what the definitions of crates/convention give is what document 01 says. By computation.
+-- The other examples: what the definitions of crates/convention give is what document 01 says, or what follows from its words. By computation.
 use mathlib.Core.Path.{_≡_, refl}
 use mathlib.Core.List.{[], _∷_, map}
 use Rattle.convention.specs.Numbers.{stateLimit}

@@ -1,5 +1,5 @@
--- Document 01, 'Examples to settle the reading', those outside P1 to P12 that compute at once: what building gives, the states of S, and lines. What
--- stands here is 01's text; proofs/Computed.antt and, for the lines, proofs/Printed.antt hold the definitions to it.
+-- Document 01, 'Examples to settle the reading', those outside P1 to P12 that compute at once: what building gives, the states of S, and lines; and the example
+-- of 'Placing by a table'. What stands here is 01's text but for three offsets; proofs/Computed.antt and, for the lines, proofs/Printed.antt hold the definitions to it.
 use Prim.Native.Nat.{ℕ}
 use mathlib.Core.List.{List, [], _∷_, _++_, map}
 use mathlib.Core.Bool.{true, false}
@@ -68,9 +68,9 @@ pub record OffsetCase : Type 0 where
   pub residue : ℕ
   pub gives : ℕ
 
-abbrev pub offset : ℕ → ℕ → ℕ → ℕ → OffsetCase
-offset p modulus residue gives = record { p = p; modulus = modulus; residue = residue; gives = gives }
+abbrev from : ℕ → ℕ → ℕ → ℕ → OffsetCase
+from p modulus residue gives = record { p = p; modulus = modulus; residue = residue; gives = gives }
 
--- 'p = 5, A = 8, residue 4 gives 4 + 8 = 12'; p that has the remainder already; p = 0, which has it and has not.
+-- 'p = 5, A = 8, residue 4 gives 4 + 8 = 12'. Beside it, ours: a p that has the remainder already; p = 0, where it has it and where it has another.
 abbrev pub offsetCases : List OffsetCase
-offsetCases = offset 5 8 4 12 ∷ offset 12 8 4 12 ∷ offset 0 8 0 0 ∷ offset 0 8 4 4 ∷ []
+offsetCases = from 5 8 4 12 ∷ from 12 8 4 12 ∷ from 0 8 0 0 ∷ from 0 8 4 4 ∷ []

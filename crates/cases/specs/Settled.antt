@@ -1,4 +1,4 @@
--- Document 01, 'Answer numbers' and the order of faults: examples that settle more of the reading, like P1 to P12. proofs/Hold.antt holds the definitions to them.
+-- Document 01, 'Answer numbers', the order of faults, and the offset of 'Placing by a table' through bytes: examples that settle more of the reading, like P1 to P12. proofs/Hold.antt holds the definitions to them.
 use Prim.Native.Nat.{ℕ}
 use mathlib.Core.List.{List, [], _∷_, _++_}
 use lib.ListN.{replicate}

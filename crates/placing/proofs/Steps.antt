@@ -48,12 +48,9 @@ module _ (h : Head) (k : SheetKind) (head : HeadRead h) (kind : SheetKindRead h 
     tried = rw f (omega (arith, starts-count, skipped-le taken (needed (h .width) k) (startsOf k)));
   }
 
-  -- An alignment is not 0, and there is room for an aligned offset.
+  -- An alignment is not 0.
   pub aligned : 0 < k .shape .alignment
   aligned = modulus-pos (k .shape .alignment) (kind .shape .alignment)
-
-  pub offset-room : (p room : ℕ) → p + stepMost < room → p + k .shape .alignment < room
-  offset-room p room l = omega (arith, modulus-most (k .shape .alignment) (kind .shape .alignment))
 
   -- The place's run lies within the sixteen, and its stack bytes end at most `stepMost` after p.
   pub run-ends : (s : ByRules) (place : Placement) → place ≡ rulesPlace (h .width) k s → runEnd place ≤ 16

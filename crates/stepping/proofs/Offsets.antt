@@ -6,7 +6,7 @@ use native.Mathlib.Nat.{mod-lt}
 use native.Mathlib.Omega.{arith}
 use Rattle.convention.specs.Fields.{isModulus}
 use Rattle.convention.specs.Offsets.{IsLeast, leastOffset}
-use Rattle.convention.proofs.Offsets.{modulus-pos, least-is, least-lt}
+use Rattle.convention.proofs.Offsets.{modulus-pos, modulus-most, least-is}
 
 -- The sum is the definition's.
 pub sum-is : (m r p x y : ℕ) → x ≡ p % m → y ≡ (m + r - x) % m → p + y ≡ leastOffset m r p
@@ -17,9 +17,9 @@ sum-is m r p x y ex ey = rw (ey, ex)
 pub sum-least : (m r p x y : ℕ) → x ≡ p % m → y ≡ (m + r - x) % m → r < m → IsLeast m r p (p + y)
 sum-least m r p x y ex ey h = rw (sum-is m r p x y ex ey) (least-is m r p h)
 
--- The difference is not below 0, and the sum fits.
-pub no-more : (m r p x : ℕ) → isModulus m ≡ true → x ≡ p % m → x ≤ m + r
-no-more m r p x modulus ex = omega (arith, mod-lt p (modulus-pos m modulus))
+-- The difference is not below 0; and the sum fits, whatever it is the remainder of.
+pub difference-fits : (m r p x : ℕ) → isModulus m ≡ true → x ≡ p % m → x ≤ m + r
+difference-fits m r p x modulus ex = omega (arith, mod-lt p (modulus-pos m modulus))
 
-pub sum-fits : (m r p x y room : ℕ) → isModulus m ≡ true → x ≡ p % m → y ≡ (m + r - x) % m → p + m < room → p + y < room
-sum-fits m r p x y room modulus ex ey fits = omega (arith, sum-is m r p x y ex ey, least-lt m r p (modulus-pos m modulus))
+pub sum-fits : (m p y z room : ℕ) → isModulus m ≡ true → y ≡ z % m → p + 16 < room → p + y < room
+sum-fits m p y z room modulus ey fits = omega (arith, mod-lt z (modulus-pos m modulus), modulus-most m modulus)

@@ -70,12 +70,13 @@ fn remainder(x: u32, modulus: u32) -> u32
 
 // The least offset, at least `p`, whose remainder by `modulus` is `residue`.
 pub fn least_offset(modulus: u8, residue: u8, p: Offset) -> Offset
-    requires { ⌜ (isModulus modulus ≡ true) × (residue < modulus) × (p .0 + modulus < 2 ^ 32) ⌝ }
+    requires { ⌜ (isModulus modulus ≡ true) × (residue < modulus) × (p .0 + 16 < 2 ^ 32) ⌝ }
     ensures { λ r. ⌜ r .0 ≡ leastOffset modulus residue (p .0) ⌝ }
     ensures { λ r. ⌜ IsLeast modulus residue (p .0) (r .0) ⌝ }
 {
     let m = modulus as u32;
-    Offset(p.0 + remainder(m + residue as u32 - remainder(p.0, m), m))
+    let r = residue as u32;
+    Offset(p.0 + remainder(m + r - remainder(p.0, m), m))
 }
 
 // The number of a list of so many arguments with so much room, before its kinds are looked at: 8 where there are more than

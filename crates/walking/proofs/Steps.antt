@@ -43,10 +43,6 @@ step-ends h x p within = elim (step-cases h x) [
   | inr (inr r) ↦ rw (r .place p) (omega arith)
 ]
 
--- There is room for the next offset with any residue.
-pub offset-room : (h : Head) (x : Transition) (s : ByTable) → PlaceAsks h x s → s .p .0 + h .modulus < 2 ^ 32
-offset-room h x s asks = omega (arith, asks .room, modulus-most (h .modulus) (asks .modulus))
-
 module _ (h : Head) (x : Transition) (s : ByTable) (place : Placement) (asks : PlaceAsks h x s) (ep : place ≡ tablePlace h x (s .p .0)) where
   pub run-ends : runEnd place ≤ 16
   run-ends = rw ep (step-ends h x (s .p .0) (asks .run))
@@ -55,8 +51,8 @@ module _ (h : Head) (x : Transition) (s : ByTable) (place : Placement) (asks : P
   stack-ends b = elim (step-cases h x) [
     | inl r ↦ rw (ep, r .place (s .p .0)) (lit< tt)
     | inr (inl r) ↦
-        let below : x .a < h .modulus = asks .residue (r .form) in
-        rw (ep, r .place (s .p .0)) (omega (arith, least-lt (h .modulus) (x .a) (s .p .0) (omega arith), modulus-most (h .modulus) (asks .modulus), asks .room))
+        let below = least-lt (h .modulus) (x .a) (s .p .0) (modulus-pos (h .modulus) (asks .modulus)) in
+        rw (ep, r .place (s .p .0)) (omega (arith, below, modulus-most (h .modulus) (asks .modulus), asks .room))
     | inr (inr r) ↦ rw (ep, r .place (s .p .0)) (lit< tt)
   ]
 

@@ -1,5 +1,5 @@
 -- `place`: how many starts were skipped says whether one fits, and the flags whether the stack is allowed; each answer is the rules' in that case.
-use Rattle.placing.proofs.Steps.{wide, aligned, offset-room, place-registers, place-stack, place-nowhere}
+use Rattle.placing.proofs.Steps.{wide, aligned, place-registers, place-stack, place-nowhere}
 use borrow.Author.Needs.{needs}
 use Rattle.placing.proofs.place.Statement.{statement}
 use Rattle.placing.proofs.place.Tie as tie
@@ -14,7 +14,7 @@ returns : tie.Need-returns
 returns c = search (place-registers, needs)
 
 least-offset-requires : tie.Need-least-offset-requires
-least-offset-requires c κs = (search needs, search (aligned, needs), search (offset-room, needs))
+least-offset-requires c κs = (search needs, search (aligned, needs), search needs)
 
 stack-bytes-requires : tie.Need-stack-bytes-requires
 stack-bytes-requires c κs = search needs

@@ -1,6 +1,6 @@
 -- `least_offset`: what the expression adds up is the definition's offset, which is the least.
 use borrow.Author.Needs.{needs}
-use Rattle.stepping.proofs.Offsets.{sum-is, sum-least, no-more, sum-fits}
+use Rattle.stepping.proofs.Offsets.{sum-is, sum-least, difference-fits, sum-fits}
 use Rattle.stepping.proofs.least_offset.Statement.{statement}
 use Rattle.stepping.proofs.least_offset.Tie as tie
 
@@ -11,7 +11,7 @@ remainder-requires : tie.Need-remainder-requires
 remainder-requires c κs = search needs
 
 sub-remainder : tie.Need-sub-remainder
-sub-remainder c = search (no-more, needs)
+sub-remainder c = search (difference-fits, needs)
 
 remainder-requires-2 : tie.Need-remainder-requires-2
 remainder-requires-2 c κs = search needs

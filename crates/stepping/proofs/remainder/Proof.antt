@@ -1,4 +1,4 @@
--- `remainder`: a modulus is a power of two, so a mask of the bits below it keeps the remainder.
+-- `remainder`: there is a bit to mask below a modulus, and the mask keeps the remainder.
 use borrow.Author.Needs.{needs}
 use Rattle.convention.proofs.Offsets.{modulus-pos, remainder-mask}
 use Rattle.stepping.proofs.remainder.Statement.{statement}

@@ -1,6 +1,6 @@
 -- `place`: the form says which place it is.
 use borrow.Author.Tests.{eq-eqb, ne-eqb}
-use Rattle.walking.proofs.Steps.{offset-room}
+use native.Mathlib.Omega.{arith}
 use Rattle.walking.proofs.place.Statement.{statement}
 use Rattle.walking.proofs.place.Tie as tie
 
@@ -10,7 +10,7 @@ returns c = rw (eq-eqb _ _ (c .if1 .taken))
 least-offset-requires : tie.Need-least-offset-requires
 least-offset-requires c κs =
     let asks = c .before .before .before .before .before .pre in
-    (asks .modulus, asks .residue (c .before .if2 .taken), offset-room _ _ _ asks)
+    (asks .modulus, asks .residue (c .before .if2 .taken), omega (arith, asks .room))
 
 returns-2 : tie.Need-returns-2
 returns-2 c = rw (ne-eqb _ _ (c .before .before .before .before .if1 .left), eq-eqb _ _ (c .before .before .if2 .taken), ← c .least-offset .ensures .0)
