@@ -66,7 +66,7 @@ fn least(p: u8, modulus: u8, residue: u8) -> u8 {
 /// Asserts where the one byte of kind 1 goes, after one argument of kind 0 that takes p bytes, or after none where p is 0.
 fn goes_to(offset: u8, p: u8, place: impl FnOnce(&[u8]) -> Result<Placed, Refusal>) {
     let kinds: &[u8] = if p == 0 { &[1] } else { &[0, 1] };
-    let placed = place(kinds).expect("both have a place");
+    let placed = place(kinds).expect("each has a place");
     let last = &placed.records[placed.records.len() - 6..];
     assert_eq!(last, record(2, offset, 1), "from p = {p}");
     assert_eq!(placed.p, u32::from(offset) + 1);

@@ -17,7 +17,7 @@ sum-is m r p x y ex ey = rw (ey, ex)
 pub sum-least : (m r p x y : ℕ) → x ≡ p % m → y ≡ (m + r - x) % m → r < m → IsLeast m r p (p + y)
 sum-least m r p x y ex ey h = rw (sum-is m r p x y ex ey) (least-is m r p h)
 
--- The difference is not below 0; and the sum fits, whatever it is the remainder of.
+-- The difference is not below 0; and the sum fits, whatever y is the remainder of.
 pub difference-fits : (m r p x : ℕ) → isModulus m ≡ true → x ≡ p % m → x ≤ m + r
 difference-fits m r p x modulus ex = omega (arith, mod-lt p (modulus-pos m modulus))
 

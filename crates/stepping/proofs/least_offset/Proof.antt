@@ -1,4 +1,4 @@
--- `least_offset`: what the expression adds up is the definition's offset, which is the least.
+-- `least_offset`: the expression comes to the definition's offset, which is the least.
 use borrow.Author.Needs.{needs}
 use Rattle.stepping.proofs.Offsets.{sum-is, sum-least, difference-fits, sum-fits}
 use Rattle.stepping.proofs.least_offset.Statement.{statement}

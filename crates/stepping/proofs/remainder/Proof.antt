@@ -1,4 +1,4 @@
--- `remainder`: there is a bit to mask below a modulus, and the mask keeps the remainder.
+-- `remainder`: a modulus is not 0, so 1 can be taken from it; and the mask keeps the remainder.
 use borrow.Author.Needs.{needs}
 use Rattle.convention.proofs.Offsets.{modulus-pos, remainder-mask}
 use Rattle.stepping.proofs.remainder.Statement.{statement}
