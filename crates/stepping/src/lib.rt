@@ -68,7 +68,8 @@ fn remainder(x: u32, modulus: u32) -> u32
     x & (modulus - 1)
 }
 
-// The least offset, at least `p`, whose remainder by `modulus` is `residue`.
+// The least offset, at least `p`, whose remainder by `modulus` is `residue`. It lies less than sixteen bytes after `p`, and that is
+// the room that it asks for.
 pub fn least_offset(modulus: u8, residue: u8, p: Offset) -> Offset
     requires { ⌜ (isModulus modulus ≡ true) × (residue < modulus) × (p .0 + 16 < 2 ^ 32) ⌝ }
     ensures { λ r. ⌜ r .0 ≡ leastOffset modulus residue (p .0) ⌝ }

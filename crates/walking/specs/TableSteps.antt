@@ -30,7 +30,7 @@ pub record FaultAsks (shape : Shape) (x : Transition) : Type 0 where
 abbrev pub anyStepMost : ℕ
 anyStepMost = 270
 
--- The same, from a p that leaves room for one more argument.
+-- A transition of a table that was read, and a p that leaves room for one more argument: its run ends within the sixteen, its residue is below the modulus.
 pub record PlaceAsks (h : Head) (x : Transition) (s : ByTable) : Type 0 where
   pub run : x .form ≡ 1 → x .a + x .b ≤ 16
   pub residue : x .form ≡ 2 → x .a < h .modulus
