@@ -52,10 +52,11 @@ extern "C" {
 #define TEASELRAM_LONGEST_LIST (2 * TEASELRAM_MOST_STATES)
 
 /*
- * The bytes of stack that do for any call, its return address and glibc's memcpy and memset included. Judging needs the
- * most; 2,560 do for building and 1,024 for all others. Not proved but measured on a painted stack, by tests/c/stack.c.
+ * The bytes of stack that do for any call, its return address and glibc's memcpy and memset included. Building needs
+ * the most; 4,608 do for judging, 3,584 for placing and 1,024 for all others. Not proved but measured on a painted
+ * stack, by tests/c/stack.c.
  */
-#define TEASELRAM_MOST_STACK 4096
+#define TEASELRAM_MOST_STACK 10240
 
 /* The numbers of refusals. */
 enum teaselram_refusal {

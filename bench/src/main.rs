@@ -1,5 +1,5 @@
-//! The proved library's times beside those of plain Rust programs that do the same, as tables of ratios:
-//! `cargo run --release -p bench`, on x86-64. Before anything is timed, both are seen to answer and write the same.
+//! The proved library's times beside those of plain Rust programs that do the same, as tables of ratios: `bench/run`, on x86-64
+//! or on Arm. Before anything is timed, both are seen to answer and write the same.
 
 mod building;
 mod inputs;
@@ -12,10 +12,8 @@ mod timing;
 use teaselram::{Built, Placed, Refusal, Verdict};
 
 fn main() {
-    if !cfg!(target_arch = "x86_64") || std::env::var_os("TEASELRAM_EMULATED").is_some() {
-        eprintln!(
-            "bench: the library's calls go to another process here: their times would say nothing"
-        );
+    if std::env::var_os("TEASELRAM_NATIVE").is_none() {
+        eprintln!("bench: run it by bench/run, which makes the library for this machine's own processor");
         std::process::exit(1);
     }
     let inputs = inputs::all();

@@ -1,14 +1,19 @@
 //! Links the static library that `rt staticlib teaselram` writes at the top of the repository. Its code is for x86-64; for any
 //! other processor links the calls that `tests/emulated/build` makes, which run it under the kit's emulator. Those are linked
-//! on x86-64 too where TEASELRAM_EMULATED is set.
+//! on x86-64 too where TEASELRAM_EMULATED is set. Where TEASELRAM_NATIVE is, links what `bench/native` makes for this machine's
+//! own processor, for timing alone.
 use std::{env, fs, path::PathBuf};
 
 fn main() {
     let mut folder = "target/staticlib";
     let proved = written(folder, "libteaselram.a", "rt staticlib teaselram");
     println!("cargo:rerun-if-env-changed=TEASELRAM_EMULATED");
-    let native = env::var("CARGO_CFG_TARGET_ARCH").unwrap() == "x86_64";
-    if !native || env::var_os("TEASELRAM_EMULATED").is_some() {
+    println!("cargo:rerun-if-env-changed=TEASELRAM_NATIVE");
+    let x86_64 = env::var("CARGO_CFG_TARGET_ARCH").unwrap() == "x86_64";
+    if env::var_os("TEASELRAM_NATIVE").is_some() {
+        folder = "target/native";
+        written(folder, "libteaselram.a", "bench/native");
+    } else if !x86_64 || env::var_os("TEASELRAM_EMULATED").is_some() {
         folder = "target/emulated";
         written(folder, "libteaselram.a", "tests/emulated/build");
         assert!(

@@ -76,10 +76,10 @@ static const struct call {
     {"sheet_kind", sheet_kind, 1024},
     {"table_kind", table_kind, 1024},
     {"row", row, 1024},
-    {"place_by_rules", by_rules, 1024},
-    {"place_by_table", by_table, 1024},
-    {"build", build, 2560},
-    {"judge", judge, TEASELRAM_MOST_STACK},
+    {"place_by_rules", by_rules, 3584},
+    {"place_by_table", by_table, 3584},
+    {"build", build, TEASELRAM_MOST_STACK},
+    {"judge", judge, 4608},
 };
 
 /* How many bytes of a painted stack lose their paint where this runs on it. */

@@ -2,7 +2,7 @@
 use Prim.Native.Nat.{ℕ, zero, suc, _≤_, _<_}
 use mathlib.Core.Logic.{inl, inr}
 use mathlib.Core.Path.{_≡_, refl, sym, _∙_}
-use mathlib.Core.Bool.{false, not}
+use mathlib.Core.Bool.{Bool, false, not}
 use mathlib.Core.List.{List}
 use native.Mathlib.Omega.{arith}
 use lib.Dec.{leb}
@@ -16,15 +16,13 @@ use Rattle.convention.specs.declared.BuildingAnswer.the-variants.{Built}
 use Rattle.convention.specs.Numbers.{stateLimit, orElse, unless, reading}
 use Rattle.convention.specs.Bytes.{written}
 use Rattle.convention.specs.Sheets.{readSheet}
-use Rattle.convention.specs.Layout.{rowAt}
-use Rattle.convention.specs.Built.{builtVersion, tableOfStates, builtStates, builtTable, buildSheetNo, buildNo, builtOrRefused, build, buildWrites, buildMemory}
+use Rattle.convention.specs.Layout.{tableLength}
+use Rattle.convention.specs.Built.{builtVersion, builtStates, builtTable, buildSheetNo, buildNo, builtOrRefused, build, buildWrites, buildMemory}
 use Rattle.convention.specs.Promised.{SheetRead}
 use Rattle.convention.proofs.Runs.{either}
 use Rattle.convention.proofs.Numbers.{or-zero, or-here, unless-zero}
 use Rattle.convention.proofs.Sheets.{sheet-right, sheet-is, sheet-refused, sheet-wrong}
-use Rattle.building.specs.declared.memory.Met.{Met}
-use Rattle.building.specs.Holding.{MetHolds}
-use Rattle.building.specs.Writing.{TableAsks, BuildingIs}
+use Rattle.building.specs.Deciding.{DecidedIs, WriteAsks, BuildingIs}
 use Rattle.building.proofs.Readable.{built-length}
 
 -- A number that is not 0 refuses, and leaves the memory.
@@ -43,21 +41,21 @@ number-refused number n len nz = sym (number-answers number n len (omega (arith,
 pub answer-built : (number n len : ℕ) → number ≡ 0 → Built n len ≡ builtOrRefused number n len
 answer-built number n len z = rw z
 
--- A sheet that was read, whose states were explored: the number is that of 'Building: 11, 12'.
-module _ (sheet : Sheet) (states : List ℕ) (met : Met) (before : List ℕ) (len number : ℕ) (answer : BuildingAnswer)
-    (holds : MetHolds sheet states met (builtStates stateLimit sheet)) (v : ℕ) (ev : v ≡ builtVersion sheet (met .count)) (el : len ≡ rowAt v (sheet .head) (met .count))
-    (en : number ≡ orElse (unless (not (met .over)) 11) (unless (leb len (length before)) 12)) (ea : answer ≡ builtOrRefused number (met .count) len) where
+-- A sheet that was read, whose table was decided: the number is that of 'Building: 11, 12'.
+module _ (sheet : Sheet) (states : ℕ) (over : Bool) (rows before : List ℕ) (len number : ℕ) (answer : BuildingAnswer) (is : DecidedIs sheet states over rows)
+    (el : len ≡ tableLength (builtVersion sheet states) (sheet .head) states) (en : number ≡ orElse (unless (not over) 11) (unless (leb len (length before)) 12))
+    (ea : answer ≡ builtOrRefused number states len) where
   -- Where there are not too many states, the length is the table's.
-  module _ (o : met .over ≡ false) where
+  module _ (o : over ≡ false) where
     few : length (builtStates stateLimit sheet) ≤ stateLimit
-    few = omega (arith, holds .room .few, holds .all o .many)
+    few = omega (arith, is .few, is .all o .many)
 
     whole : len ≡ length (builtTable stateLimit sheet)
-    whole = el ∙ rw (ev, holds .all o .many) (sym (built-length _ sheet (builtStates stateLimit sheet)))
+    whole = el ∙ rw (is .all o .many) (sym (built-length _ sheet (builtStates stateLimit sheet)))
 
   table-number : number ≡ buildSheetNo stateLimit sheet (length before)
-  table-number = elim (either (met .over)) [
-    | inl o ↦ rw (en, o, lt-leb _ _ (holds .more o))
+  table-number = elim (either over) [
+    | inl o ↦ rw (en, o, lt-leb _ _ (is .more o))
     | inr o ↦ rw (en, o, le-leb _ _ (few o), ← whole o)
   ]
 
@@ -72,25 +70,27 @@ module _ (sheet : Sheet) (states : List ℕ) (met : Met) (before : List ℕ) (le
 
   -- It is 0.
   module _ (z : number ≡ 0) where
-    passed : (unless (not (met .over)) 11 ≡ 0) × (unless (leb len (length before)) 12 ≡ 0)
+    passed : (unless (not over) 11 ≡ 0) × (unless (leb len (length before)) 12 ≡ 0)
     passed = or-zero _ _ (sym en ∙ z)
 
-    all-met : met .over ≡ false
-    all-met = elim (either (met .over)) [
+    all-met : over ≡ false
+    all-met = elim (either over) [
       | inl o ↦ absurd (omega (arith, rw o at (passed .0)))
       | inr o ↦ o
     ]
 
-    pub table-asks : SheetRead sheet → TableAsks v sheet states (met .count) before
-    table-asks read = record {
-      kept = record { read = read; room = holds .room; keeps = holds .all all-met };
-      there = rw (← el) (leb-true _ _ (unless-zero _ 12 (omega arith) (passed .1)));
+    pub write-asks : SheetRead sheet → WriteAsks sheet states rows before
+    write-asks read = record {
+      read = read;
+      few = is .few;
+      made = is .all all-met;
+      there = rw (← whole all-met) (leb-true _ _ (unless-zero _ 12 (omega arith) (passed .1)));
     }
 
-    pub table-built : (after : List ℕ) → after ≡ written before 0 (tableOfStates v sheet (builtStates stateLimit sheet)) → BuildingIs sheet before answer after
+    pub table-built : (after : List ℕ) → after ≡ written before 0 (builtTable stateLimit sheet) → BuildingIs sheet before answer after
     table-built after e =
         let none : buildSheetNo stateLimit sheet (length before) ≡ 0 = sym table-number ∙ z in
-        record { answers = ea ∙ rw (none, z, holds .all all-met .many, whole all-met); memory = rw none (rw (ev, holds .all all-met .many) at e) }
+        record { answers = ea ∙ rw (none, z, is .all all-met .many, whole all-met); memory = rw none e }
 
 -- The reader's answer.
 module _ (s : List ℕ) (a : SheetAnswer) (ea : a ≡ readSheet s) where

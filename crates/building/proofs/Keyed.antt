@@ -12,7 +12,8 @@ use lib.Dec.{eqb}
 use lib.ListN.{length, getD, drop, set, length-drop, length-set, replicate, drop-of-length-le}
 use lib.Seq.{drop-cons, take-all, take-suc-set, append-snoc}
 use Rattle.convention.specs.declared.Allocation.{Allocation}
-use Rattle.building.specs.Keys.{setNumber, setOf, KeyIs, NumberFrom, SetUpTo}
+use Rattle.stepping.specs.Sets.{setOf}
+use Rattle.building.specs.Keys.{setNumber, KeyIs, NumberFrom, SetUpTo}
 
 -- The number of a set is below the number of sets.
 number-most : (fs : List Bool) → setNumber fs < 2 ^ length fs
@@ -39,6 +40,9 @@ set-back (false ∷ fs) =
     let half : (0 + 2 * setNumber fs) / 2 ≡ setNumber fs = omega arith in
     rw (even, half, set-back fs)
 
+pub sixteen-back : (fs : List Bool) (number : ℕ) → length fs ≡ 16 → number ≡ setNumber fs → setOf 16 number ≡ fs
+sixteen-back fs number long e = rw (e, ← long) (set-back fs)
+
 -- So is the state from its key.
 pub key-is : (a : Allocation) (number : ℕ) → length (a .unavailable) ≡ 16 → a .remainder < 256 → number < 65536 → number ≡ setNumber (a .unavailable)
     → KeyIs (number + 65536 * a .remainder) a
@@ -46,7 +50,7 @@ key-is a number long byte small e =
     let flags : (number + 65536 * a .remainder) % 65536 ≡ number = omega arith in
     let high : (number + 65536 * a .remainder) / 65536 ≡ a .remainder = omega arith in
     let rest : a .remainder % 256 ≡ a .remainder = omega arith in
-    let back : setOf 16 number ≡ a .unavailable = rw (e, ← long) (set-back (a .unavailable)) in
+    let back : setOf 16 number ≡ a .unavailable = sixteen-back (a .unavailable) number long e in
     record { number = rw e; state = rw (flags, high, rest, back) }
 
 -- One more register doubles a number, and it fits.

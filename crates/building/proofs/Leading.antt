@@ -1,8 +1,10 @@
 -- The rules' step from an allocation state, on plain values.
 use Prim.Native.Nat.{ℕ, _%_, _<_}
 use mathlib.Core.Path.{_≡_}
+use mathlib.Core.Bool.{true}
 use native.Mathlib.Nat.{mod-lt}
 use native.Mathlib.Omega.{arith}
+use lib.ListN.{length}
 use mir.Syntax.{w8}
 use mir.Val.{Fits}
 use Rattle.convention.specs.declared.Head.{Head}
@@ -11,20 +13,20 @@ use Rattle.convention.specs.declared.Sheet.{Sheet}
 use Rattle.convention.specs.declared.Placement.{Placement}
 use Rattle.convention.specs.declared.Allocation.{Allocation}
 use Rattle.convention.specs.declared.ByRules.{ByRules}
+use Rattle.convention.specs.Fields.{isModulus}
 use Rattle.convention.specs.Sheets.{sheetKind}
 use Rattle.convention.specs.Built.{allocation, fromAllocation}
-use Rattle.convention.specs.Promised.{HeadRead, SheetRead}
-use Rattle.convention.proofs.Offsets.{modulus-pos}
-use Rattle.placing.specs.RulesSteps.{RulesStepAsks, RulesStepIs}
+use Rattle.convention.specs.Promised.{SheetRead}
+use Rattle.convention.proofs.Offsets.{modulus-pos, modulus-most}
+use Rattle.stepping.specs.Sets.{setOf}
+use Rattle.placing.specs.RulesSteps.{RulesStepIs}
+use Rattle.building.specs.Keys.{setNumber}
 use Rattle.building.specs.Holding.{LeadAsks, LeadIs}
+use Rattle.building.proofs.Keyed.{sixteen-back}
 
--- A remainder by a byte is a byte.
-pub residue-fits : (x m : ℕ) → 0 < m → Fits w8 m → Fits w8 (x % m)
-residue-fits x m h f = record { fits = omega (arith, mod-lt x h, f .fits) }
-
--- A modulus is not 0.
-pub modulus-some : (h : Head) → HeadRead h → 0 < h .modulus
-modulus-some h read = modulus-pos (h .modulus) (read .modulus)
+-- A remainder by a modulus is a byte.
+pub residue-fits : (x m r : ℕ) → isModulus m ≡ true → r ≡ x % m → Fits w8 r
+residue-fits x m r h e = record { fits = rw e (omega (arith, mod-lt x (modulus-pos m h), modulus-most m h)) }
 
 -- Kind k of a sheet that was read.
 pub lead-asks : (sheet : Sheet) (k : ℕ) → SheetRead sheet → k < sheet .head .kinds → LeadAsks (sheet .head) (sheetKind sheet k)
@@ -36,11 +38,10 @@ pub lead-of : (sheet : Sheet) (k : ℕ) (h : Head) (kind : SheetKind) (a : Alloc
 lead-of sheet k h kind a place next eh ek lead = rw (eh, ek) at lead
 
 module _ (h : Head) (kind : SheetKind) (a : Allocation) where
-  -- A remainder is a byte, and leaves room on the stack.
-  pub rules-step-asks : LeadAsks h kind → a .remainder < 256 → RulesStepAsks h kind (fromAllocation a)
-  rules-step-asks asks b = record { head = asks .head; kind = asks .kind; room = omega arith }
-
-  -- After the step the rules stand in the next state.
-  pub led : (place : Placement) (after : ByRules) (next : Allocation) → RulesStepIs h kind (fromAllocation a) place after
+  -- The step is taken from the bits of the flags; after it the rules stand in the next state.
+  pub led : (number : ℕ) (place : Placement) (after : ByRules) (next : Allocation) → length (a .unavailable) ≡ 16 → number ≡ setNumber (a .unavailable)
+      → RulesStepIs h kind (record { unavailable = setOf 16 number; p = record { 0 = a .remainder } }) place after
       → next ≡ allocation (h .modulus) after → LeadIs h kind a place next
-  led place after next step e = record { placed = step .placed; after = rw (← step .reached) e }
+  led number place after next long en step e =
+      let stepped : RulesStepIs h kind (fromAllocation a) place after = rw (sixteen-back (a .unavailable) number long en) at step in
+      record { placed = stepped .placed; after = rw (← stepped .reached) e }

@@ -10,8 +10,10 @@ pub mod Clean
 pub mod Reached
 pub mod Unreached
 pub mod Keyed
+pub mod Linking
 pub mod Leading
 pub mod Keeping
+pub mod Staying
 pub mod Meeting
 pub mod Writing
 pub mod Answering

@@ -22,7 +22,7 @@ use Rattle.convention.specs.Promised.{SheetKindRead}
 use Rattle.convention.proofs.Rules.{place-cases}
 use Rattle.convention.proofs.Runs.{either, free-each, free-some, mark-in, mark-out}
 use Rattle.stepping.proofs.Apart.{mark-stays, place-length}
-use Rattle.placing.proofs.Search.{skipped-free}
+use Rattle.placing.proofs.Starts.{skipped-free}
 use Rattle.placing.proofs.Given.{closed-length, closed-stays}
 
 -- The run of the start that is taken lies within the sheet's registers.

@@ -1,34 +1,35 @@
 -- Laws of writing the table: stores one after the other, blocks one after the other, and the parts put together.
-use Prim.Native.Nat.{ℕ, _+_, _-_, _*_, _/_, _%_, _≤_, _<_, zero-le}
-use mathlib.Core.Path.{_≡_, refl, sym, _∙_}
-use mathlib.Core.List.{List, [], _∷_, _++_, append-assoc}
+use Prim.Native.Nat.{ℕ, _+_, _-_, _*_, _/_, _%_, _≤_, _<_, _^_, zero-le}
+use mathlib.Core.Path.{_≡_, refl, sym, ap, _∙_}
+use mathlib.Core.List.{List, [], _∷_, _++_, append-assoc, append-nil}
 use native.Mathlib.Numerals.{add-one, add-two}
-use native.Mathlib.Nat.{add-zero}
+use native.Mathlib.Nat.{add-zero, mul-le-mul}
 use native.Mathlib.Omega.{arith}
-use lib.ListN.{length, set, length-append, length-set}
+use lib.ListN.{length, set, take, drop, length-append, length-take, length-drop, length-set, drop-of-length-le}
+use lib.Seq.{length-take-le, take-all, drop-drop}
+use mir.Syntax.{w16}
+use mir.Val.{Fits}
 use Rattle.convention.specs.declared.Head.{Head}
 use Rattle.convention.specs.declared.Shape.{Shape}
-use Rattle.convention.specs.declared.SheetKind.{SheetKind}
 use Rattle.convention.specs.declared.Sheet.{Sheet}
 use Rattle.convention.specs.declared.Placement.{Placement}
 use Rattle.convention.specs.declared.Placement.the-variants.{Registers, Stack, Nowhere}
 use Rattle.convention.specs.declared.Transition.{Transition}
-use Rattle.convention.specs.declared.Allocation.{Allocation}
 use Rattle.convention.specs.Bytes.{written, blocks}
 use Rattle.convention.specs.Numbers.{stateLimit}
 use Rattle.convention.specs.Layout.{lengthAt, lengthBytes, versionAt, registersAt, widthAt, modulusAt, kindsCountAt, kindsAt, sizeAt, alignmentAt, shapeLength, tableKindAt, stateLength, statesAt, rowsAt, formAt, aAt, bAt, nextAt}
-use Rattle.convention.specs.Layout.{transitionLength, rowLength, rowAt, transitionAt, tableLength}
+use Rattle.convention.specs.Layout.{transitionLength, rowLength, rowAt, tableLength}
 use Rattle.convention.specs.Fields.{shapeBytes, stateBytes}
 use Rattle.convention.specs.Sheets.{sheetKind}
 use Rattle.convention.specs.Tables.{transitionBytes}
 use Rattle.convention.specs.Explored.{Entry}
-use Rattle.convention.specs.Built.{allocations, made, builtCell, builtRow, builtKind, builtBody, tableOfStates, builtStates}
-use Rattle.convention.proofs.Bytes.{length-written, written-nothing, written-sets, written-one, written-more, written-block}
-use Rattle.convention.proofs.Positions.{state-wide, kind-inside, row-inside, transition-inside}
-use Rattle.building.specs.Holding.{MetRoom, StateAt, Finds, LeadIs}
-use Rattle.building.specs.Writing.{StatesKept, CellAsks, CellIs, TableAsks, RowAsks, KindsAsk, openingBytes, FrontAsks, frontBytes, BlocksSoFar}
-use Rattle.building.proofs.Readable.{built-length, kind-wide, kinds-length, cell-wide, row-wide}
-use Rattle.building.proofs.Leading.{lead-asks, lead-of}
+use Rattle.convention.specs.Built.{allocations, made, builtVersion, builtRow, builtKind, builtBody, tableOfStates, builtStates, builtTable}
+use Rattle.convention.proofs.Bytes.{length-written, written-nothing, written-sets, written-one, part-written, written-more, length-blocks, written-block}
+use Rattle.convention.proofs.Positions.{state-wide, kind-inside}
+use Rattle.fields.proofs.Counted.{row-most}
+use Rattle.building.specs.Deciding.{rowsVersion, rowsLength, rowsMost, WriteAsks}
+use Rattle.building.specs.Writing.{CopyAsks, KindsAsk, openingBytes, FrontAsks, frontBytes, BlocksSoFar}
+use Rattle.building.proofs.Readable.{built-length, kind-wide, kinds-length, row-wide}
 
 -- The stores of each part are the bytes of the part written: a state's number, a shape, the opening, a transition.
 pub stored-state : (v : ℕ) (d : List ℕ) (at n : ℕ) → at + stateLength v ≤ length d → set d at n ≡ written d at (stateBytes v n)
@@ -61,26 +62,25 @@ next-room v d at x h = simp length-set (omega arith)
 pub stores-keep : (d out : List ℕ) (at i j a b c : ℕ) → length out ≡ length (set (set (set d at a) i b) j c) → length out ≡ length d
 stores-keep d out at i j a b c e = simp length-set at e
 
--- A transition's next is a state that was met, or there are as many.
-pub next-few : (modulus : ℕ) (place : Placement) (states : List ℕ) (count : ℕ) (a : Allocation) (number : ℕ) (x : Transition)
-    → x ≡ made modulus place number → Finds states count a number → MetRoom states count → x .next ≤ stateLimit
-next-few modulus place states count a number x e finds room = rw e (most place)
+-- A transition's next is the number that was given, or 0.
+pub made-few : (modulus : ℕ) (place : Placement) (next : ℕ) (x : Transition) → x ≡ made modulus place next → next ≤ stateLimit → x .next ≤ stateLimit
+made-few modulus place next x e few = rw e (most place)
   where
-    most : (place : Placement) → made modulus place number .next ≤ stateLimit
-    most (Registers first n) = omega (arith, finds .within, room .few)
-    most (Stack offset n) = omega (arith, finds .within, room .few)
+    most : (place : Placement) → made modulus place next .next ≤ stateLimit
+    most (Registers first n) = few
+    most (Stack offset n) = few
     most Nowhere = omega arith
 
--- A transition is that of the place to which the kind leads and of the number that was found.
-pub cell-written : (v : ℕ) (h : Head) (kind : SheetKind) (a : Allocation) (states : List ℕ) (count : ℕ) (place : Placement) (next : Allocation)
-    (number : ℕ) (x : Transition) (d : List ℕ) (at : ℕ) (now : List ℕ) → LeadIs h kind a place next → Finds states count next number
-    → x ≡ made (h .modulus) place number → now ≡ written d at (transitionBytes v x) → CellIs v h kind a states count d at now
-unfolding builtCell
-cell-written v h kind a states count place next number x d at now lead finds ex e = record {
-  cell = λ sheet k eh ek keeps.
-      let here = lead-of sheet k h kind a place next eh ek lead in
-      rw (← here .placed, ← here .after, ← finds .finds sheet _ keeps, ← eh) (rw ex at e);
-}
+pub made-written : (v modulus : ℕ) (place : Placement) (next : ℕ) (x : Transition) (d : List ℕ) (at : ℕ) (out : List ℕ) → x ≡ made modulus place next
+    → out ≡ written d at (transitionBytes v x) → out ≡ written d at (transitionBytes v (made modulus place next))
+made-written v modulus place next x d at out ex e = rw ex at e
+
+-- The rows of as many states as a table may have are in the room for them.
+pub rows-room : (h : Head) (states : ℕ) → h .kinds ≤ 8 → states ≤ stateLimit → rowsLength h states ≤ rowsMost
+unfolding stateLength
+rows-room h states few counted =
+    let row : rowLength rowsVersion h ≤ 4 * 8 = omega arith in
+    mul-le-mul row counted
 
 -- Blocks of w bytes, one after the other from byte `at` on: none yet, one more, all.
 module _ (f : ℕ → List ℕ) (at all : ℕ) (before : List ℕ) where
@@ -88,7 +88,7 @@ module _ (f : ℕ → List ℕ) (at all : ℕ) (before : List ℕ) where
   unfolding blocks
   blocks-begin = record { within = omega arith; there = sym (written-nothing before at); long = refl }
 
-  blocks-on : (w n : ℕ) (out after : List ℕ) → ((i : ℕ) → length (f i) ≡ w) → BlocksSoFar f at n all before out → n < all
+  pub blocks-on : (w n : ℕ) (out after : List ℕ) → ((i : ℕ) → length (f i) ≡ w) → BlocksSoFar f at n all before out → n < all
       → at + w * n + w ≤ length before → after ≡ written out (at + w * n) (f n) → BlocksSoFar f at (n + 1) all before after
   blocks-on w n out after wide half h room e =
       let place : at + w * n + length (f n) ≤ length out = omega (arith, wide n, half .long) in
@@ -116,54 +116,18 @@ module _ (v : ℕ) (sheet : Sheet) (k : ℕ) (before out : List ℕ) (asks : Kin
   kind-on after e =
       blocks-on (builtKind v sheet) kindsAt _ before (shapeLength v) k out after (kind-wide v sheet) half h inside (rw ea at e)
 
--- The rows.
-module _ (v : ℕ) (sheet : Sheet) where
-  abbrev head : Head
-  head = sheet .head
+-- How long the rows of so many states are: that can be counted.
+pub rows-few : (row states : ℕ) → row ≤ 255 * 255 → Fits w16 states → row * states < 2 ^ 33
+rows-few row states h f = omega (arith, row-most row states h f 0 (omega arith))
 
-  abbrev m : ℕ
-  m = sheet .head .kinds
+rows-long : (sheet : Sheet) (states : ℕ) → length (blocks (builtRow rowsVersion sheet (builtStates stateLimit sheet)) states) ≡ rowsLength (sheet .head) states
+rows-long sheet states = length-blocks _ (rowLength rowsVersion (sheet .head)) states (λ i _. row-wide rowsVersion sheet _ i)
 
-  abbrev l : List (Entry (allocations sheet))
-  l = builtStates stateLimit sheet
-
-  -- The cells of a row.
-  module _ (states : List ℕ) (count i k : ℕ) (before out : List ℕ) (asks : RowAsks v sheet states count i before) (a : Allocation)
-      (half : BlocksSoFar (builtCell v sheet l a) (rowAt v head i) k m before out) where
-    -- One more.
-    module _ (h : k < m) (at : ℕ) (ea : at ≡ transitionAt v head i k) where
-      there : transitionAt v head i k + transitionLength v ≤ length before
-      there = omega (arith, transition-inside v head count i (asks .inside) k h, asks .asks .there)
-
-      pub cell-asks : CellAsks v (sheet .head) (sheetKind sheet k) states count out at
-      cell-asks =
-          let kept = asks .asks .kept in
-          record { lead = lead-asks sheet k (kept .read) h; room = kept .room; there = rw (ea, half .long) there }
-
-      pub cell-on : (after : List ℕ) → CellIs v (sheet .head) (sheetKind sheet k) a states count out at after
-          → BlocksSoFar (builtCell v sheet l a) (rowAt v head i) (k + 1) m before after
-      cell-on after is =
-          blocks-on (builtCell v sheet l a) (rowAt v head i) m before (transitionLength v) k out after (cell-wide v sheet l a) half h there
-          (rw ea at (is .cell sheet k refl refl (asks .asks .kept .keeps)))
-
-    -- All of them.
-    pub row-end : StateAt states i a → m ≤ k → out ≡ written before (rowAt v (sheet .head) i) (builtRow v sheet (builtStates stateLimit sheet) i)
-    unfolding builtRow
-    row-end from h =
-        let node = from .state sheet count l (asks .asks .kept .keeps) (asks .inside) in
-        rw node (blocks-end _ (rowAt v head i) m before k out half h)
-
-  -- The rows.
-  module _ (states : List ℕ) (count i : ℕ) (before out : List ℕ) (asks : TableAsks v sheet states count before) (h : i < count)
-      (half : BlocksSoFar (builtRow v sheet l) (rowsAt v head) i count before out) where
-    pub row-asks : RowAsks v sheet states count i out
-    row-asks = record { asks = record { kept = asks .kept; there = rw (half .long) (asks .there) }; inside = h }
-
-    pub row-on : (after : List ℕ) → after ≡ written out (rowAt v head i) (builtRow v sheet l i)
-        → BlocksSoFar (builtRow v sheet l) (rowsAt v head) (i + 1) count before after
-    row-on after e =
-        blocks-on (builtRow v sheet l) (rowsAt v head) count before (rowLength v head) i out after (row-wide v sheet l) half h
-        (omega (arith, row-inside v head count i h, asks .there)) e
+-- The rows of so many states, written from the first byte on, are the first bytes.
+pub rows-made : (sheet : Sheet) (states : ℕ) (before rows : List ℕ)
+    → rows ≡ written before 0 (blocks (builtRow rowsVersion sheet (builtStates stateLimit sheet)) states)
+    → take (rowsLength (sheet .head) states) rows ≡ blocks (builtRow rowsVersion sheet (builtStates stateLimit sheet)) states
+rows-made sheet states before rows e = rw (← rows-long sheet states, e) (part-written before 0 _ zero-le)
 
 -- One more part, written right after those from the first byte on.
 next-part : (d bs cs out next : List ℕ) (at : ℕ) → out ≡ written d 0 bs → at ≡ length bs → next ≡ written out at cs → next ≡ written d 0 (bs ++ cs)
@@ -174,15 +138,15 @@ next-part d bs cs out next at eo ea en =
 -- What stands before the rows, part by part.
 module _ (v : ℕ) (sheet : Sheet) (states : ℕ) where
   abbrev opening : List ℕ
-  opening = openingBytes v (head v sheet) (tableLength v (head v sheet) states - lengthBytes)
+  opening = openingBytes v (sheet .head) (tableLength v (sheet .head) states - lengthBytes)
 
   abbrev kinds : List ℕ
-  kinds = blocks (builtKind v sheet) (m v sheet)
+  kinds = blocks (builtKind v sheet) (sheet .head .kinds)
 
-  kinds-end : statesAt v (head v sheet) ≡ length (opening ++ kinds)
+  kinds-end : statesAt v (sheet .head) ≡ length (opening ++ kinds)
   kinds-end = simp (length-append, kinds-length) (omega arith)
 
-  front-end : rowsAt v (head v sheet) ≡ length (frontBytes v sheet states)
+  front-end : rowsAt v (sheet .head) ≡ length (frontBytes v sheet states)
   front-end = rw (length-append, state-wide) (omega (arith, kinds-end))
 
   module _ (h : Head) (len at : ℕ) (d opened named : List ℕ) (asks : FrontAsks v sheet states d)
@@ -198,20 +162,70 @@ module _ (v : ℕ) (sheet : Sheet) (states : ℕ) where
         rw (ea, eh, named-is, length-written d 0 (opening ++ kinds) room) (asks .there)
 
     pub front-written : (out : List ℕ) → out ≡ written named at (stateBytes v states) → out ≡ written d 0 (frontBytes v sheet states)
-    front-written out e = next-part d (opening ++ kinds) (stateBytes v states) named out (statesAt v (head v sheet)) named-is kinds-end (rw (ea, eh) at e)
+    front-written out e = next-part d (opening ++ kinds) (stateBytes v states) named out (statesAt v (sheet .head)) named-is kinds-end (rw (ea, eh) at e)
+
+-- A copy of the first bytes into the part from byte `at` on.
+module _ (rows d : List ℕ) (len at : ℕ) (asks : CopyAsks rows len d at) where
+  pub copy-counts : len ≡ length (take len rows)
+  copy-counts = sym (length-take-le len rows (asks .made))
+
+  -- The part is what is left.
+  part : take (length d - at) (drop at d) ≡ drop at d
+  part = take-all (length d - at) (drop at d) (rw length-drop (omega arith))
+
+  pub copy-fits : length (take len rows) ≤ length (take (length d - at) (drop at d))
+  copy-fits = rw (part, length-drop, ← copy-counts) (omega (arith, asks .there))
+
+  pub copied : (copy : List ℕ) → copy ≡ take (length (take len rows)) (take len rows) ++ drop (length (take len rows)) (take (length d - at) (drop at d))
+      → take at d ++ (copy ++ drop (length d - at) (drop at d)) ≡ written d at (take len rows)
+  copied copy e =
+      let rest : drop (length d - at) (drop at d) ≡ [] = drop-of-length-le (drop at d) {i = length d - at} (rw length-drop (omega arith)) in
+      rw (e, rest, append-nil, part, take-all (length (take len rows)) (take len rows) (omega arith), drop-drop)
 
 -- That and the rows are the table.
-module _ (v : ℕ) (sheet : Sheet) (states : List ℕ) (count : ℕ) (kept : StatesKept sheet states count) where
+module _ (sheet : Sheet) (states v : ℕ) (rows d : List ℕ) (asks : WriteAsks sheet states rows d) (ev : v ≡ builtVersion sheet states) where
+  abbrev l : List (Entry (allocations sheet))
+  l = builtStates stateLimit sheet
+
+  -- The version is that in whose form the rows are.
+  same-version : v ≡ rowsVersion
+  unfolding builtVersion
+  same-version = ev
+
+  table-is : builtTable stateLimit sheet ≡ tableOfStates v sheet l
+  table-is = rw (ev, asks .made .many)
+
+  table-long : length (builtTable stateLimit sheet) ≡ tableLength v (sheet .head) states
+  table-long = rw (table-is, asks .made .many) (built-length v sheet l)
+
   -- As many bytes follow the length as it says.
-  follow : tableLength v (head v sheet) count - lengthBytes ≡ length (builtBody v sheet (l v sheet))
+  follow : tableLength v (sheet .head) states - lengthBytes ≡ length (builtBody v sheet l)
   unfolding tableOfStates
-  follow = omega (arith, rw (← kept .keeps .many) at (built-length v sheet (l v sheet)))
+  follow = omega (arith, rw (← asks .made .many) at (built-length v sheet l))
 
-  parts : frontBytes v sheet count ++ blocks (builtRow v sheet (l v sheet)) count ≡ tableOfStates v sheet (builtStates stateLimit sheet)
+  parts : frontBytes v sheet states ++ blocks (builtRow v sheet l) states ≡ builtTable stateLimit sheet
   unfolding tableOfStates builtBody
-  parts = rw (append-assoc, follow, kept .keeps .many)
+  parts = rw (table-is, append-assoc, follow, asks .made .many)
 
-  pub table-written : (d front out : List ℕ) → front ≡ written d 0 (frontBytes v sheet count)
-      → out ≡ written front (rowsAt v (sheet .head)) (blocks (builtRow v sheet (builtStates stateLimit sheet)) count)
-      → out ≡ written d 0 (tableOfStates v sheet (builtStates stateLimit sheet))
-  table-written d front out ef er = rw (← parts) (next-part d (frontBytes v sheet count) _ front out (rowsAt v (head v sheet)) ef (front-end v sheet count) er)
+  pub front-asks : FrontAsks v sheet states d
+  front-asks = record { read = asks .read; room = asks .few; there = omega (arith, asks .there, table-long) }
+
+  module _ (front : List ℕ) (ef : front ≡ written d 0 (frontBytes v sheet states)) (len : ℕ) (el : len ≡ rowsLength (sheet .head) states)
+      (at : ℕ) (ea : at ≡ rowsAt v (sheet .head)) where
+    -- The rows are there, and there is room for them.
+    rows-there : len ≤ length rows
+    rows-there = rw el (omega (arith, ap length (asks .made .made), rows-long sheet states, length-take (rowsLength (sheet .head) states) rows))
+
+    rows-fit : at + len ≤ length front
+    rows-fit =
+        let rows-same : rowLength v (sheet .head) * states ≡ rowsLength (sheet .head) states = rw same-version in
+        let front-there : 0 + length (frontBytes v sheet states) ≤ length d = omega (arith, front-end v sheet states, front-asks .there) in
+        rw (ef, length-written d 0 (frontBytes v sheet states) front-there, el, ea) (omega (arith, asks .there, table-long, rows-same))
+
+    pub copy-asks : CopyAsks rows len front at
+    copy-asks = record { made = rows-there; there = rows-fit }
+
+    pub table-written : (out : List ℕ) → out ≡ written front at (take len rows) → out ≡ written d 0 (builtTable stateLimit sheet)
+    table-written out e =
+        let rows-are : blocks (builtRow v sheet l) states ≡ take (rowsLength (sheet .head) states) rows = rw same-version (sym (asks .made .made)) in
+        rw (← parts) (next-part d (frontBytes v sheet states) _ front out (rowsAt v (sheet .head)) ef (front-end v sheet states) (rw rows-are (rw (ea, el) at e)))

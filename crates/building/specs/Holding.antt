@@ -1,4 +1,4 @@
--- What the states that the builder keeps in memory have to do with the entries that the exploration meets.
+-- What the states that the builder keeps in memory, and the rows that it makes, have to do with the entries that the exploration meets.
 use Prim.Native.Nat.{ℕ, _+_, _≤_, _<_}
 use mathlib.Core.Path.{_≡_}
 use mathlib.Core.Bool.{true, false}
@@ -13,15 +13,15 @@ use Rattle.convention.specs.Numbers.{stateLimit}
 use Rattle.convention.specs.Sheets.{sheetKind}
 use Rattle.convention.specs.Promised.{HeadRead, SheetKindRead, SheetRead}
 use Rattle.convention.specs.Rules.{rulesPlace, rulesAfter}
-use Rattle.convention.specs.Explored.{Entry, entry, number, meet, metFrom, met as metBefore}
-use Rattle.convention.specs.Built.{allocation, fromAllocation, allocations}
+use Rattle.convention.specs.Explored.{Entry, entry, number as numberOf, meet, metFrom, met as metBefore}
+use Rattle.convention.specs.Bytes.{written}
+use Rattle.convention.specs.Layout.{transitionLength}
+use Rattle.convention.specs.Built.{allocation, fromAllocation, allocations, builtCell, builtRow, builtStates}
+use Rattle.building.specs.Deciding.{rowsVersion, rowsLength, rowsMost, DecideAsks}
 use Rattle.building.specs.Keys.{KeyIs}
+use Rattle.building.specs.Links.{Linked}
+use Rattle.building.specs.Writing.{BlocksSoFar}
 use Rattle.building.specs.declared.memory.Met.{Met}
-
--- So many states, in the room for as many as a table may have.
-pub record MetRoom (states : List ℕ) (count : ℕ) : Type 0 where
-  pub few : count ≤ stateLimit
-  pub long : length states ≡ stateLimit
 
 -- The states kept are those of the entries of l. That each is kept by its key is said here alone.
 pub record Keeps (sheet : Sheet) (states : List ℕ) (count : ℕ) (l : List (Entry (allocations sheet))) : Type 0 where
@@ -29,8 +29,8 @@ pub record Keeps (sheet : Sheet) (states : List ℕ) (count : ℕ) (l : List (En
   pub keys : (i : ℕ) → i < length l → KeyIs (getD states i 0) (entry (allocations sheet) l i .node)
 
 -- The states kept are those of the entries of l, all of them, or there are more than have room.
-pub record MetHolds (sheet : Sheet) (states : List ℕ) (met : Met) (l : List (Entry (allocations sheet))) : Type 0 where
-  pub room : MetRoom states (met .count)
+pub record MetHolds (sheet : Sheet) (states links : List ℕ) (met : Met) (l : List (Entry (allocations sheet))) : Type 0 where
+  pub linked : Linked states links (met .count)
   pub all : met .over ≡ false → Keeps sheet states (met .count) l
   pub more : met .over ≡ true → stateLimit < length l
 
@@ -39,15 +39,13 @@ pub record StateAt (states : List ℕ) (i : ℕ) (a : Allocation) : Type 0 where
   pub state : (sheet : Sheet) (count : ℕ) (l : List (Entry (allocations sheet))) → Keeps sheet states count l → i < count
       → entry (allocations sheet) l i .node ≡ a
 
--- An allocation state looked for: whatever entries are kept, its number, which is their count where it is none of them.
-pub record Finds (states : List ℕ) (count : ℕ) (a : Allocation) (r : ℕ) : Type 0 where
-  pub within : r ≤ count
-  pub finds : (sheet : Sheet) (l : List (Entry (allocations sheet))) → Keeps sheet states count l → r ≡ number (allocations sheet) l a
-
--- An allocation state met: whatever entries were kept, those are kept that the meeting of an entry with this state makes of them.
-pub record Meets (states : List ℕ) (met : Met) (a : Allocation) (r : Met) (after : List ℕ) : Type 0 where
-  pub meets : (sheet : Sheet) (l : List (Entry (allocations sheet))) (e : Entry (allocations sheet)) → e .node ≡ a → MetHolds sheet states met l
-      → MetHolds sheet after r (meet (allocations sheet) l e)
+-- An allocation state met: whatever entries were kept, those are kept that the meeting of an entry with this state makes of them, and the number is its own.
+pub record Meets (states links : List ℕ) (met : Met) (a : Allocation) (r : Met) (number : ℕ) (after relinked : List ℕ) : Type 0 where
+  pub few : number ≤ stateLimit
+  pub meets : (sheet : Sheet) (l : List (Entry (allocations sheet))) (e : Entry (allocations sheet)) → e .node ≡ a → MetHolds sheet states links met l
+      → MetHolds sheet after relinked r (meet (allocations sheet) l e)
+  pub numbers : (sheet : Sheet) (l : List (Entry (allocations sheet))) (e : Entry (allocations sheet)) → e .node ≡ a → MetHolds sheet states links met l
+      → r .over ≡ false → number ≡ numberOf (allocations sheet) (meet (allocations sheet) l e) (e .node)
 
 -- A head and a kind that were read.
 pub record LeadAsks (h : Head) (k : SheetKind) : Type 0 where
@@ -59,34 +57,50 @@ pub record LeadIs (h : Head) (k : SheetKind) (a : Allocation) (place : Placement
   pub placed : place ≡ rulesPlace (h .width) k (fromAllocation a)
   pub after : next ≡ allocation (h .modulus) (rulesAfter (h .width) k (fromAllocation a))
 
--- One kind gone through at a state.
-pub record PassAsks (h : Head) (k : SheetKind) (states : List ℕ) (count : ℕ) : Type 0 where
+-- One kind gone through at a state, and the transition's place among the rows.
+pub record PassAsks (h : Head) (k : SheetKind) (met : Met) (states links rows : List ℕ) (at : ℕ) : Type 0 where
   pub lead : LeadAsks h k
-  pub room : MetRoom states count
+  pub linked : Linked states links (met .count)
+  pub there : at + transitionLength rowsVersion ≤ length rows
 
--- Where it is kind k of a sheet, and what the kinds before it led to is kept, so is what it leads to.
-pub record Passes (h : Head) (kind : SheetKind) (a : Allocation) (states : List ℕ) (met r : Met) (after : List ℕ) : Type 0 where
+-- Where it is kind k of a sheet, and what the kinds before it led to is kept, so is what it leads to, and the transition is that of a table of these states.
+pub record Passes (h : Head) (kind : SheetKind) (a : Allocation) (met : Met) (states links rows : List ℕ) (at : ℕ) (r : Met) (after relinked made : List ℕ) : Type 0 where
   pub passes : (sheet : Sheet) (k : ℕ) → h ≡ sheet .head → kind ≡ sheetKind sheet k → (l : List (Entry (allocations sheet))) (i : ℕ)
-      → MetHolds sheet states met (metFrom (allocations sheet) l a i k) → MetHolds sheet after r (metFrom (allocations sheet) l a i (k + 1))
+      → MetHolds sheet states links met (metFrom (allocations sheet) l a i k) → MetHolds sheet after relinked r (metFrom (allocations sheet) l a i (k + 1))
+  pub cell : (sheet : Sheet) (k : ℕ) → h ≡ sheet .head → kind ≡ sheetKind sheet k → (l : List (Entry (allocations sheet))) (i : ℕ)
+      → MetHolds sheet states links met (metFrom (allocations sheet) l a i k) → r .over ≡ false
+      → made ≡ written rows at (builtCell rowsVersion sheet (metFrom (allocations sheet) l a i (k + 1)) a k)
 
 -- State i gone through: those before it were, and it was met.
-pub record PassKindsAsks (sheet : Sheet) (states : List ℕ) (met : Met) (i : ℕ) : Type 0 where
+pub record PassKindsAsks (sheet : Sheet) (i : ℕ) (met : Met) (states links rows : List ℕ) : Type 0 where
   pub read : SheetRead sheet
-  pub holds : MetHolds sheet states met (metBefore (allocations sheet) i)
+  pub holds : MetHolds sheet states links met (metBefore (allocations sheet) i)
   pub whole : met .over ≡ false
   pub inside : i < met .count
+  pub room : rowsMost ≤ length rows
+
+-- What it leads to is kept, and its row is that of the built table.
+pub record PassesKinds (sheet : Sheet) (i : ℕ) (rows : List ℕ) (r : Met) (after relinked made : List ℕ) : Type 0 where
+  pub holds : MetHolds sheet after relinked r (metBefore (allocations sheet) (i + 1))
+  pub row : r .over ≡ false → made ≡ written rows (rowsLength (sheet .head) i) (builtRow rowsVersion sheet (builtStates stateLimit sheet) i)
 
 -- Half way through it, before kind k.
-pub record PassingKinds (sheet : Sheet) (a : Allocation) (i k : ℕ) (states : List ℕ) (met : Met) : Type 0 where
+pub record PassingKinds (sheet : Sheet) (a : Allocation) (i k : ℕ) (rows : List ℕ) (met : Met) (states links made : List ℕ) : Type 0 where
   pub within : k ≤ sheet .head .kinds
-  pub holds : MetHolds sheet states met (metFrom (allocations sheet) (metBefore (allocations sheet) i) a i k)
+  pub long : length made ≡ length rows
+  pub holds : MetHolds sheet states links met (metFrom (allocations sheet) (metBefore (allocations sheet) i) a i k)
+  pub cells : met .over ≡ false
+      → BlocksSoFar (builtCell rowsVersion sheet (builtStates stateLimit sheet) a) (rowsLength (sheet .head) i) k (sheet .head .kinds) rows made
 
--- The states of a sheet that was read, in the room for as many as a table may have.
-pub record ExploreAsks (sheet : Sheet) (states : List ℕ) : Type 0 where
-  pub read : SheetRead sheet
-  pub long : length states ≡ stateLimit
+-- The states of a sheet that was read, of which none was met, and room for their rows.
+pub record ExploreAsks (sheet : Sheet) (states links rows : List ℕ) : Type 0 where
+  pub decide : DecideAsks sheet rows
+  pub none : Linked states links 0
 
 -- Half way through the states, before state i.
-pub record Exploring (sheet : Sheet) (i : ℕ) (states : List ℕ) (met : Met) : Type 0 where
+pub record Exploring (sheet : Sheet) (i : ℕ) (rows : List ℕ) (met : Met) (states links made : List ℕ) : Type 0 where
   pub within : i ≤ stateLimit
-  pub holds : MetHolds sheet states met (metBefore (allocations sheet) i)
+  pub long : length made ≡ length rows
+  pub holds : MetHolds sheet states links met (metBefore (allocations sheet) i)
+  pub passed : met .over ≡ false → i ≤ met .count
+  pub done : met .over ≡ false → BlocksSoFar (builtRow rowsVersion sheet (builtStates stateLimit sheet)) 0 i stateLimit rows made

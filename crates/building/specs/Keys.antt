@@ -1,22 +1,17 @@
 -- The key by which the memory of the states met keeps an allocation state: one number that stands for its sixteen flags and its remainder.
-use Prim.Native.Nat.{ℕ, zero, suc, _+_, _-_, _*_, _/_, _%_, _≤_, _<_}
+use Prim.Native.Nat.{ℕ, _+_, _-_, _*_, _/_, _%_, _≤_, _<_}
 use mathlib.Core.Path.{_≡_}
 use mathlib.Core.Bool.{Bool}
 use mathlib.Core.List.{List, [], _∷_, _++_}
-use lib.Dec.{eqb}
 use lib.ListN.{length, getD, take, drop}
 use mir.Val.{boolByte}
 use Rattle.convention.specs.declared.Allocation.{Allocation}
+use Rattle.stepping.specs.Sets.{setOf}
 
 -- The number of a set of registers: the first counts 1, and each other twice what the one before it counts.
 unfoldable pub setNumber : List Bool → ℕ
 setNumber [] = 0
 setNumber (f ∷ fs) = boolByte f + 2 * setNumber fs
-
--- The set of so many registers that has a number.
-unfoldable pub setOf : ℕ → ℕ → List Bool
-setOf zero number = []
-setOf (suc n) number = eqb (number % 2) 1 ∷ setOf n (number / 2)
 
 -- There are 65536 sets of sixteen registers; the remainder, a byte, counts as many for each.
 abbrev pub keyOf : Allocation → ℕ
@@ -42,7 +37,7 @@ pub record SetUpTo (number i rest : ℕ) (flags : List Bool) : Type 0 where
   pub long : length flags ≡ 16
   pub is : take i flags ++ setOf (16 - i) rest ≡ setOf 16 number
 
--- Half way through the keys of so many states: none of the first i is this one.
+-- None of the first i keys of so many states is this one.
 pub record Passed (states : List ℕ) (count key i : ℕ) : Type 0 where
   pub within : i ≤ count
   pub others : (j : ℕ) → j < i → getD states j 0 ≡ key → ⊥

@@ -1,5 +1,7 @@
 pub mod Made
 pub mod Reached
+pub mod Deciding
 pub mod Keys
-pub mod Holding
+pub mod Links
 pub mod Writing
+pub mod Holding

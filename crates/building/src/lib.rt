@@ -1,10 +1,10 @@
-// Building a sheet's table: exploring the allocation states, then writing. Document 01, 'The built table'.
+// Building a sheet's table: one exploration of the allocation states decides it, rows and all, and then it is written. Document
+// 01, 'The built table'.
 mod memory;
 mod writer;
 
 use convention::Allocation;
 use convention::BuildingAnswer;
-use convention::ByRules;
 use convention::Head;
 use convention::Offset;
 use convention::Placement;
@@ -13,33 +13,46 @@ use convention::STATE_LIMIT;
 use convention::Sheet;
 use convention::SheetKind;
 use fields::layout;
+use placing::RulesAt;
 ghost use mathlib.Core.Path.{_≡_};
-ghost use Prim.Native.Nat.{_+_, _%_, _≤_, _<_};
+ghost use Prim.Native.Nat.{_+_, _%_, _<_};
 ghost use lib.ListN.{length};
-ghost use mathlib.Core.Bool.{not};
+ghost use mathlib.Core.Bool.{true, not};
 ghost use lib.Dec.{leb};
 ghost use Rattle.convention.specs.Numbers.{stateLimit, orElse, unless};
+ghost use Rattle.convention.specs.Fields.{isModulus};
 ghost use Rattle.convention.specs.Promised.{SheetRead};
-ghost use Rattle.convention.specs.Explored.{met as metBefore};
-ghost use Rattle.convention.specs.Built.{allocation as allocationOf, allocations, builtStates, builtOrRefused, build as builds, buildMemory, firstAllocation};
-ghost use Rattle.building.specs.Holding.{MetHolds, LeadAsks, LeadIs, PassAsks, Passes, PassKindsAsks, ExploreAsks};
-ghost use Rattle.building.specs.Writing.{BuildingIs};
+ghost use Rattle.convention.specs.Bytes.{written};
+ghost use Rattle.convention.specs.Layout.{tableLength};
+ghost use Rattle.convention.specs.Built.{allocation as allocationOf, builtVersion, builtTable, builtOrRefused, build as builds, buildMemory, firstAllocation};
+ghost use Rattle.placing.specs.RulesSteps.{asRules};
+ghost use Rattle.building.specs.Deciding.{DecideAsks, DecidedIs, WriteAsks, BuildingIs};
+ghost use Rattle.building.specs.Holding.{LeadAsks, LeadIs, PassAsks, Passes, PassKindsAsks, PassesKinds, ExploreAsks};
+use crate::memory::LINK_COUNT;
 use crate::memory::Met;
+
+// How many bytes a transition takes among the rows, and how many kinds a row has at most.
+const CELL_BYTES: usize = 4;
+
+const MOST_KINDS: usize = 8;
+
+// How many bytes the rows of as many states as a table may have take at most: `rowsMost`.
+pub const ROWS_MOST: usize = CELL_BYTES * MOST_KINDS * STATE_LIMIT;
 
 // An offset's remainder by A.
 fn residue(modulus: u8, offset: Offset) -> u8
-    requires { ⌜ 0 < modulus ⌝ }
+    requires { ⌜ isModulus modulus ≡ true ⌝ }
     ensures { λ r. ⌜ r ≡ offset .0 % modulus ⌝ }
 {
-    (offset.0 % modulus as u32) as u8
+    stepping::remainder(offset.0, modulus as u32) as u8
 }
 
 // The allocation state in which placing by the rules stands.
-fn allocation(modulus: u8, s: ByRules) -> Allocation
-    requires { ⌜ 0 < modulus ⌝ }
-    ensures { λ r. ⌜ r ≡ allocationOf modulus s ⌝ }
+fn allocation(modulus: u8, s: RulesAt) -> Allocation
+    requires { ⌜ isModulus modulus ≡ true ⌝ }
+    ensures { λ r. ⌜ r ≡ allocationOf modulus (asRules s) ⌝ }
 {
-    let unavailable = s.unavailable;
+    let unavailable = memory::set_of(s.unavailable);
     let p = s.p;
     let remainder = residue(modulus, p);
     Allocation {
@@ -59,8 +72,9 @@ fn lead(head: Head, kind: SheetKind, a: Allocation) -> Led
     requires { ⌜ LeadAsks head kind ⌝ }
     ensures { λ r. ⌜ LeadIs head kind a (r .place) (r .next) ⌝ }
 {
-    let unavailable = a.unavailable;
-    let from = ByRules {
+    let flags = a.unavailable;
+    let unavailable = memory::set_number(flags);
+    let from = RulesAt {
         unavailable,
         p: Offset(a.remainder as u32),
     };
@@ -71,24 +85,44 @@ fn lead(head: Head, kind: SheetKind, a: Allocation) -> Led
     Led { place, next }
 }
 
-// A kind gone through at a state: what it leads to is met, where it leads on.
-fn pass(head: Head, kind: SheetKind, a: Allocation, states: &mut [u32], met: Met) -> Met
-    requires { ⌜ PassAsks head kind (now states) (met .count) ⌝ }
-    ensures { λ r. ⌜ Passes head kind a (now (states .entry)) met r (now (states .exit)) ⌝ }
+// A kind gone through at a state: what it leads to is met, where it leads on, and its transition stands among the rows, from
+// byte `at` on.
+fn pass(
+    head: Head,
+    kind: SheetKind,
+    a: Allocation,
+    met: Met,
+    states: &mut [u32],
+    links: &mut [u16],
+    rows: &mut [u8],
+    at: usize,
+) -> Met
+    requires { ⌜ PassAsks head kind met (now states) (now links) (now rows) at ⌝ }
+    ensures { λ r. ⌜ Passes head kind a met (now (states .entry)) (now (links .entry)) (now (rows .entry)) at r (now (states .exit)) (now (links .exit)) (now (rows .exit)) ⌝ }
 {
     let led = lead(head, kind, a);
     let place = led.place;
     if stepping::place_fault(place) == 0 {
         let next = led.next;
-        return memory::meet_state(states, met, next);
+        let more = memory::meet_state(states, links, met, next);
+        writer::write_made(head.modulus, place, more.number, rows, at);
+        return more.met;
     }
+    writer::write_made(head.modulus, place, 0, rows, at);
     met
 }
 
-// State i gone through, in the order of the kinds.
-fn pass_kinds(sheet: Sheet, states: &mut [u32], met: Met, i: usize) -> Met
-    requires { ⌜ PassKindsAsks sheet (now states) met i ⌝ }
-    ensures { λ r. ⌜ MetHolds sheet (now (states .exit)) r (metBefore (allocations sheet) (i + 1)) ⌝ }
+// State i gone through, in the order of the kinds, and its row made.
+fn pass_kinds(
+    sheet: Sheet,
+    i: usize,
+    met: Met,
+    states: &mut [u32],
+    links: &mut [u16],
+    rows: &mut [u8],
+) -> Met
+    requires { ⌜ PassKindsAsks sheet i met (now states) (now links) (now rows) ⌝ }
+    ensures { λ r. ⌜ PassesKinds sheet i (now (rows .entry)) r (now (states .exit)) (now (links .exit)) (now (rows .exit)) ⌝ }
 {
     let from = memory::state_at(states, i);
     let head = sheet.head;
@@ -97,7 +131,8 @@ fn pass_kinds(sheet: Sheet, states: &mut [u32], met: Met, i: usize) -> Met
     let mut k: u8 = 0;
     while k < kinds {
         let kind = sheet.kinds[k as usize];
-        more = pass(head, kind, from, states, more);
+        let at = writer::cell_at(head, i as u16, k);
+        more = pass(head, kind, from, more, states, links, rows, at);
         k += 1;
     }
     more
@@ -113,45 +148,87 @@ fn first_state() -> Allocation
     }
 }
 
-// The states that lists of kinds reach, in the order of meeting: each that was met is gone through, by its number.
-fn explore(sheet: Sheet, states: &mut [u32]) -> Met
-    requires { ⌜ ExploreAsks sheet (now states) ⌝ }
-    ensures { λ r. ⌜ MetHolds sheet (now (states .exit)) r (builtStates stateLimit sheet) ⌝ }
+// The states that lists of kinds reach, in the order of meeting: each that was met is gone through, by its number, and its row
+// made.
+fn explore(sheet: Sheet, states: &mut [u32], links: &mut [u16], rows: &mut [u8]) -> Met
+    requires { ⌜ ExploreAsks sheet (now states) (now links) (now rows) ⌝ }
+    ensures { λ r. ⌜ DecidedIs sheet (r .count) (r .over) (now (rows .exit)) ⌝ }
 {
     let none = Met {
         count: 0,
         over: false,
     };
-    let mut met = memory::meet_state(states, none, first_state());
+    let first = memory::meet_state(states, links, none, first_state());
+    let mut met = first.met;
     let mut i: usize = 0;
     while i < met.count {
         if met.over {
             return met;
         }
-        met = pass_kinds(sheet, states, met, i);
+        met = pass_kinds(sheet, i, met, states, links, rows);
         i += 1;
     }
     met
 }
 
-// 'Building: 11, 12', of the states met and of the length of a table of as many states as were kept.
-fn build_no(met: Met, len: usize, room: usize) -> u8
-    ensures { λ r. ⌜ r ≡ orElse (unless (not (met .over)) 11) (unless (leb len room) 12) ⌝ }
+// What was decided of a sheet's table: N, and whether more states are reached than a table may have. Once it is `over`, N and
+// the rows say nothing.
+pub struct DecidedTable {
+    pub states: u16,
+    pub over: bool,
+}
+
+// Decides the table of a sheet that was read: how many states it has, and its rows, which are then the first bytes of `rows`.
+pub fn decide(sheet: Sheet, rows: &mut [u8]) -> DecidedTable
+    requires { ⌜ DecideAsks sheet (now rows) ⌝ }
+    ensures { λ r. ⌜ DecidedIs sheet (r .states) (r .over) (now (rows .exit)) ⌝ }
 {
-    let many = fields::unless(!met.over, 11);
+    let mut states = [0u32; STATE_LIMIT];
+    let mut links = [0u16; LINK_COUNT];
+    let met = explore(sheet, &mut states, &mut links, rows);
+    DecidedTable {
+        states: met.count as u16,
+        over: met.over,
+    }
+}
+
+// How long a sheet's table of so many states is.
+pub fn table_length(sheet: Sheet, states: u16) -> usize
+    ensures { λ r. ⌜ r ≡ tableLength (builtVersion sheet states) (sheet .head) states ⌝ }
+{
+    layout::row_at(writer::built_version(sheet, states), sheet.head, states)
+}
+
+// Writes the table that was decided, of so many states and with these rows, into the first bytes of `out`. The bytes behind it
+// stay.
+pub fn write(sheet: Sheet, states: u16, rows: &[u8], out: &mut [u8])
+    requires { ⌜ WriteAsks sheet states (now rows) (now out) ⌝ }
+    ensures { λ _. ⌜ now (out .exit) ≡ written (now (out .entry)) 0 (builtTable stateLimit sheet) ⌝ }
+{
+    let version = writer::built_version(sheet, states);
+    let head = sheet.head;
+    writer::write_front(version, sheet, states, out);
+    let len = writer::rows_length(head, states);
+    writer::copy_rows(rows, len, out, layout::rows_at(version, head));
+}
+
+// 'Building: 11, 12', of whether there are too many states, and of the table's length and its room.
+fn build_no(over: bool, len: usize, room: usize) -> u8
+    ensures { λ r. ⌜ r ≡ orElse (unless (not over) 11) (unless (leb len room) 12) ⌝ }
+{
+    let many = fields::unless(!over, 11);
     let narrow = fields::unless(len <= room, 12);
     fields::or_else(many, narrow)
 }
 
 // What a number answers: N and the table's length where it is 0, else the refusal.
-fn build_answer(number: u8, states: usize, len: usize) -> BuildingAnswer
-    requires { ⌜ states ≤ stateLimit ⌝ }
+fn build_answer(number: u8, states: u16, len: usize) -> BuildingAnswer
     ensures { λ r. ⌜ r ≡ builtOrRefused number states len ⌝ }
 {
     if number != 0 {
         return BuildingAnswer::Refused(number);
     }
-    BuildingAnswer::Built(states as u16, len)
+    BuildingAnswer::Built(states, len)
 }
 
 // Builds the table of a sheet that was read. It is written only where no number is given.
@@ -159,14 +236,13 @@ fn build_sheet(sheet: Sheet, out: &mut [u8]) -> BuildingAnswer
     requires { ⌜ SheetRead sheet ⌝ }
     ensures { λ r. ⌜ BuildingIs sheet (now (out .entry)) r (now (out .exit)) ⌝ }
 {
-    let mut states = [0u32; STATE_LIMIT];
-    let met = explore(sheet, &mut states);
-    let version = writer::built_version(sheet, met.count);
-    let len = layout::row_at(version, sheet.head, met.count as u16);
-    let number = build_no(met, len, out.len());
-    let answer = build_answer(number, met.count, len);
+    let mut rows = [0u8; ROWS_MOST];
+    let decided = decide(sheet, &mut rows);
+    let len = table_length(sheet, decided.states);
+    let number = build_no(decided.over, len, out.len());
+    let answer = build_answer(number, decided.states, len);
     if number == 0 {
-        writer::write_table(version, sheet, &states, met.count, out);
+        write(sheet, decided.states, &rows, out);
     }
     answer
 }

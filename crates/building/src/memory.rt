@@ -1,12 +1,26 @@
-// The memory of the states met, which is lent. It keeps each as one number, its key, so that to find one is a comparison of
-// two numbers for each. Its callers know no key: they give and get allocation states.
+// The memory of the states met, which is lent: the states and their links. It keeps each state as one number, its key, and
+// finds one by the links of its key's slot. Its callers know no key: they give and get allocation states.
 use convention::Allocation;
 use convention::STATE_LIMIT;
 ghost use mathlib.Core.Path.{_≡_};
 ghost use Prim.Native.Nat.{_<_};
 ghost use lib.ListN.{length};
-ghost use Rattle.building.specs.Keys.{setNumber, setOf, stateOf, KeyIs};
-ghost use Rattle.building.specs.Holding.{MetRoom, StateAt, Finds, Meets};
+ghost use Rattle.stepping.specs.Sets.{setOf};
+ghost use Rattle.building.specs.Keys.{setNumber, stateOf, KeyIs};
+ghost use Rattle.building.specs.Links.{slots, slotOf, Linked, Finds, KeepAsks, Kept};
+ghost use Rattle.building.specs.Holding.{StateAt, Meets};
+
+// How many slots there are: `slots`.
+const SLOTS: usize = 512;
+
+// What a key is multiplied by, so that keys that are alike mostly have different slots; and what the product is divided by, so
+// that its low bits, which tell least, fall away.
+const SPREAD: u64 = 0x9e37_79b9;
+
+const SPREAD_LOW: u64 = 0x80_0000;
+
+// How many links there are: one for each state, then one for each slot.
+pub(crate) const LINK_COUNT: usize = STATE_LIMIT + SLOTS;
 
 // How many states were met. Once it is `over`, more were met than have room.
 pub(crate) struct Met {
@@ -14,8 +28,14 @@ pub(crate) struct Met {
     pub(crate) over: bool,
 }
 
+// A state met: how many were met with it, and its number, which says nothing once they are `over`.
+pub(crate) struct Numbered {
+    pub(crate) met: Met,
+    pub(crate) number: usize,
+}
+
 // The number of a set of registers, from the last register down.
-fn set_number(flags: [bool; 16]) -> u32
+pub(crate) fn set_number(flags: [bool; 16]) -> u32
     ensures { λ r. ⌜ r ≡ setNumber flags ⌝ }
     ensures { λ r. ⌜ r < 65536 ⌝ }
 {
@@ -29,7 +49,7 @@ fn set_number(flags: [bool; 16]) -> u32
 }
 
 // The set of registers that has a number.
-fn set_of(number: u32) -> [bool; 16]
+pub(crate) fn set_of(number: u32) -> [bool; 16]
     ensures { λ r. ⌜ r ≡ setOf 16 number ⌝ }
 {
     let mut flags = [false; 16];
@@ -70,40 +90,61 @@ pub(crate) fn state_at(states: &[u32], i: usize) -> Allocation
     state_of(states[i])
 }
 
-// The number of a state among those met, or their count where it was not met.
-pub(crate) fn find_state(states: &[u32], count: usize, a: Allocation) -> usize
-    requires { ⌜ MetRoom (now states) count ⌝ }
-    ensures { λ r. ⌜ Finds (now (states .entry)) count a r ⌝ }
+// The slot of a key. Nothing but speed rests on which it is.
+fn slot_of(key: u32) -> usize
+    ensures { λ r. ⌜ r ≡ slotOf key ⌝ }
+    ensures { λ r. ⌜ r < slots ⌝ }
 {
-    let wanted = key(a);
-    let mut i: usize = 0;
-    while i < count {
-        if states[i] == wanted {
-            return i;
+    ((key as u64 * SPREAD) / SPREAD_LOW % SLOTS as u64) as usize
+}
+
+// The number of the state that has a key, or the count where none does.
+fn find_state(states: &[u32], links: &[u16], count: usize, wanted: u32) -> usize
+    requires { ⌜ Linked (now states) (now links) count ⌝ }
+    ensures { λ r. ⌜ Finds (now (states .entry)) count wanted r ⌝ }
+{
+    let slot = slot_of(wanted);
+    let mut at = links[STATE_LIMIT + slot] as usize;
+    while 0 < at {
+        if states[at - 1] == wanted {
+            return at - 1;
         }
-        i += 1;
+        at = links[at - 1] as usize;
     }
-    i
+    count
+}
+
+// Keeps a key that no state has after the others, as the last of its slot.
+fn keep_state(states: &mut [u32], links: &mut [u16], count: usize, new: u32)
+    requires { ⌜ KeepAsks (now states) (now links) count new ⌝ }
+    ensures { λ _. ⌜ Kept (now (states .entry)) count new (now (states .exit)) (now (links .exit)) ⌝ }
+{
+    let slot = slot_of(new);
+    let earlier = links[STATE_LIMIT + slot];
+    states[count] = new;
+    links[count] = earlier;
+    links[STATE_LIMIT + slot] = (count + 1) as u16;
 }
 
 // A state met: kept after the others if it is new and there is room for it.
-pub(crate) fn meet_state(states: &mut [u32], met: Met, a: Allocation) -> Met
-    requires { ⌜ MetRoom (now states) (met .count) ⌝ }
-    ensures { λ r. ⌜ Meets (now (states .entry)) met a r (now (states .exit)) ⌝ }
+pub(crate) fn meet_state(states: &mut [u32], links: &mut [u16], met: Met, a: Allocation) -> Numbered
+    requires { ⌜ Linked (now states) (now links) (met .count) ⌝ }
+    ensures { λ r. ⌜ Meets (now (states .entry)) (now (links .entry)) met a (r .met) (r .number) (now (states .exit)) (now (links .exit)) ⌝ }
 {
-    let at = find_state(states, met.count, a);
-    if at < met.count {
-        return met;
+    let wanted = key(a);
+    let count = met.count;
+    let number = find_state(states, links, count, wanted);
+    if number < count {
+        return Numbered { met, number };
     }
-    if at == STATE_LIMIT {
-        return Met {
-            count: at,
-            over: true,
-        };
+    if count == STATE_LIMIT {
+        let full = Met { count, over: true };
+        return Numbered { met: full, number };
     }
-    states[at] = key(a);
-    Met {
-        count: at + 1,
+    keep_state(states, links, count, wanted);
+    let more = Met {
+        count: count + 1,
         over: met.over,
-    }
+    };
+    Numbered { met: more, number }
 }

@@ -1,12 +1,11 @@
-// Writing a sheet's table, whose states were all met, in a version: each part from the byte on where the layout puts it.
-use convention::Allocation;
+// Writing a sheet's table: the transitions of its rows, one after the other from byte 0 on, and what stands before the rows,
+// each part from the byte on where the layout puts it.
 use convention::Head;
 use convention::Offset;
 use convention::Placement;
 use convention::PlacementParts;
 use convention::Shape;
 use convention::Sheet;
-use convention::SheetKind;
 use convention::Transition;
 use fields::layout;
 use fields::layout::A_AT;
@@ -23,19 +22,23 @@ use fields::layout::SIZE_AT;
 use fields::layout::VERSION_AT;
 use fields::layout::WIDTH_AT;
 ghost use mathlib.Core.Path.{_≡_};
-ghost use Prim.Native.Nat.{_+_, _≤_, _<_};
-ghost use lib.ListN.{length};
+ghost use mathlib.Core.Bool.{true};
+ghost use Prim.Native.Nat.{_+_, _≤_, _<_, _^_};
+ghost use lib.ListN.{length, take};
 ghost use Rattle.convention.specs.Numbers.{stateLimit};
 ghost use Rattle.convention.specs.Bytes.{written, blocks};
-ghost use Rattle.convention.specs.Layout.{kindsAt, shapeLength, stateLength, rowsAt, transitionLength, rowAt};
-ghost use Rattle.convention.specs.Fields.{shapeBytes, stateBytes};
+ghost use Rattle.convention.specs.Layout.{kindsAt, shapeLength, stateLength, transitionLength};
+ghost use Rattle.convention.specs.Fields.{isModulus, shapeBytes, stateBytes};
 ghost use Rattle.convention.specs.Tables.{transitionBytes};
-ghost use Rattle.convention.specs.Built.{fieldA, made, builtVersion, builtRow, builtKind, builtStates, tableOfStates};
-ghost use Rattle.building.specs.Writing.{FieldAsks, CellAsks, CellIs, TableAsks, RowAsks, KindsAsk, openingBytes, FrontAsks, frontBytes};
-use crate::memory;
+ghost use Rattle.convention.specs.Built.{fieldA, made, builtVersion, builtKind};
+ghost use Rattle.building.specs.Deciding.{rowsVersion, rowsLength, cellAt};
+ghost use Rattle.building.specs.Writing.{FieldAsks, MadeAsks, CopyAsks, KindsAsk, openingBytes, FrontAsks, frontBytes};
+
+// The version in whose form rows are made: `rowsVersion`.
+const ROWS_VERSION: u8 = 1;
 
 // The version of a sheet's table of so many states.
-pub(crate) fn built_version(sheet: Sheet, states: usize) -> u8
+pub(crate) fn built_version(sheet: Sheet, states: u16) -> u8
     ensures { λ r. ⌜ r ≡ builtVersion sheet states ⌝ }
 {
     1
@@ -71,7 +74,7 @@ fn field_a(modulus: u8, parts: PlacementParts) -> u8
 
 // The transition that is made of a place and the next state's number.
 fn make_transition(modulus: u8, place: Placement, next: u16) -> Transition
-    requires { ⌜ 0 < modulus ⌝ }
+    requires { ⌜ isModulus modulus ≡ true ⌝ }
     ensures { λ r. ⌜ r ≡ made modulus place next ⌝ }
 {
     let parts = stepping::parts_of(place);
@@ -96,55 +99,36 @@ fn write_transition(version: u8, x: Transition, out: &mut [u8], at: usize)
     write_state(version, x.next, out, at + NEXT_AT);
 }
 
-// Writes where a kind goes from a state.
-fn write_cell(
-    version: u8,
-    head: Head,
-    kind: SheetKind,
-    a: Allocation,
-    states: &[u32],
-    count: usize,
-    out: &mut [u8],
-    at: usize,
-)
-    requires { ⌜ CellAsks version head kind (now states) count (now out) at ⌝ }
-    ensures { λ _. ⌜ CellIs version head kind a (now (states .entry)) count (now (out .entry)) at (now (out .exit)) ⌝ }
+// How many bytes the rows of so many states take, in the form in which they are made.
+pub(crate) fn rows_length(head: Head, states: u16) -> usize
+    ensures { λ r. ⌜ r ≡ rowsLength head states ⌝ }
+    ensures { λ r. ⌜ r < 2 ^ 33 ⌝ }
 {
-    let led = crate::lead(head, kind, a);
-    let next = led.next;
-    let number = memory::find_state(states, count, next);
-    let place = led.place;
-    let x = make_transition(head.modulus, place, number as u16);
-    write_transition(version, x, out, at);
+    layout::row_length(ROWS_VERSION, head) * states as usize
 }
 
-// Writes the row of state i, in the order of the kinds.
-fn write_row(version: u8, sheet: Sheet, states: &[u32], count: usize, i: usize, out: &mut [u8])
-    requires { ⌜ RowAsks version sheet (now states) count i (now out) ⌝ }
-    ensures { λ _. ⌜ now (out .exit) ≡ written (now (out .entry)) (rowAt version (sheet .head) i) (builtRow version sheet (builtStates stateLimit sheet) i) ⌝ }
+// Where among the rows the transition of a kind at a state starts.
+pub(crate) fn cell_at(head: Head, state: u16, k: u8) -> usize
+    ensures { λ r. ⌜ r ≡ cellAt head state k ⌝ }
 {
-    let from = memory::state_at(states, i);
-    let head = sheet.head;
-    let kinds = head.kinds;
-    let mut k: u8 = 0;
-    while k < kinds {
-        let kind = sheet.kinds[k as usize];
-        let at = layout::transition_at(version, head, i as u16, k);
-        write_cell(version, head, kind, from, states, count, out, at);
-        k += 1;
-    }
+    rows_length(head, state) + layout::transition_length(ROWS_VERSION) * k as usize
 }
 
-// Writes a row for each state, in the order of their numbers.
-fn write_rows(version: u8, sheet: Sheet, states: &[u32], count: usize, out: &mut [u8])
-    requires { ⌜ TableAsks version sheet (now states) count (now out) ⌝ }
-    ensures { λ _. ⌜ now (out .exit) ≡ written (now (out .entry)) (rowsAt version (sheet .head)) (blocks (builtRow version sheet (builtStates stateLimit sheet)) count) ⌝ }
+// Writes among the rows, from byte `at` on, the transition that is made of a place and the next state's number.
+pub(crate) fn write_made(modulus: u8, place: Placement, next: usize, rows: &mut [u8], at: usize)
+    requires { ⌜ MadeAsks modulus next (now rows) at ⌝ }
+    ensures { λ _. ⌜ now (rows .exit) ≡ written (now (rows .entry)) at (transitionBytes rowsVersion (made modulus place next)) ⌝ }
 {
-    let mut i: usize = 0;
-    while i < count {
-        write_row(version, sheet, states, count, i, out);
-        i += 1;
-    }
+    let x = make_transition(modulus, place, next as u16);
+    write_transition(ROWS_VERSION, x, rows, at);
+}
+
+// Copies the first `len` bytes of the rows, from byte `at` on.
+pub(crate) fn copy_rows(rows: &[u8], len: usize, out: &mut [u8], at: usize)
+    requires { ⌜ CopyAsks (now rows) len (now out) at ⌝ }
+    ensures { λ _. ⌜ now (out .exit) ≡ written (now (out .entry)) at (take len (now (rows .entry))) ⌝ }
+{
+    bytes::copy(&rows[..len], &mut out[at..]);
 }
 
 // Writes the kinds' shapes, after the opening.
@@ -177,23 +161,13 @@ fn write_opening(version: u8, head: Head, follow: usize, out: &mut [u8])
 }
 
 // Writes what stands before the rows: the opening, the kinds and N.
-fn write_front(version: u8, sheet: Sheet, states: usize, out: &mut [u8])
+pub(crate) fn write_front(version: u8, sheet: Sheet, states: u16, out: &mut [u8])
     requires { ⌜ FrontAsks version sheet states (now out) ⌝ }
     ensures { λ _. ⌜ now (out .exit) ≡ written (now (out .entry)) 0 (frontBytes version sheet states) ⌝ }
 {
     let head = sheet.head;
-    let n = states as u16;
-    let len = layout::row_at(version, head, n);
+    let len = layout::row_at(version, head, states);
     write_opening(version, head, len - LENGTH_BYTES, out);
     write_kinds(version, sheet, out);
-    write_state(version, n, out, layout::states_at(version, head));
-}
-
-// Writes the table of a sheet whose states were all met.
-pub(crate) fn write_table(version: u8, sheet: Sheet, states: &[u32], count: usize, out: &mut [u8])
-    requires { ⌜ TableAsks version sheet (now states) count (now out) ⌝ }
-    ensures { λ _. ⌜ now (out .exit) ≡ written (now (out .entry)) 0 (tableOfStates version sheet (builtStates stateLimit sheet)) ⌝ }
-{
-    write_front(version, sheet, count, out);
-    write_rows(version, sheet, states, count, out);
+    write_state(version, states, out, layout::states_at(version, head));
 }

@@ -51,11 +51,6 @@ module _ (M : Steps) (s : M .State) (ks : List ℕ) (i : ℕ) where
   unfolding faultFrom
   fault-hit h f = rw (rest ks i h) (or-here _ _ f)
 
-  -- An argument of a walk without a fault has none.
-  pub turn-free : i < length ks → faultFrom M s (drop i ks) ≡ 0 → M .fault s (getD ks i 0) ≡ 0
-  unfolding faultFrom
-  turn-free h e = or-zero (M .fault s (getD ks i 0)) _ (rw (rest ks i h) at e) .0
-
   pub stop-hit : i < length ks → 0 < M .fault s (getD ks i 0) → stopFrom M s (drop i ks) ≡ 0
   unfolding stopFrom
   stop-hit h f = rw (rest ks i h, stopFrom, ← suc-pred-eq-of-pos f)

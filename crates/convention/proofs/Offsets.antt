@@ -94,6 +94,13 @@ all-moduli test t a =
 pub width-pos : (w : ℕ) → isWidth w ≡ true → 0 < w
 width-pos w e = ltb-true 0 w (all-widths (ltb 0) refl w e)
 
+pub width-most : (w : ℕ) → isWidth w ≡ true → w ≤ 8
+width-most w e = leb-true w 8 (all-widths (λ w. leb w 8) refl w e)
+
+-- Which power of two a width is.
+pub width-power : (w : ℕ) → isWidth w ≡ true → 2 ^ (w / 2 - w / 8) ≡ w
+width-power w e = eqb-true _ w (all-widths (λ w. eqb (2 ^ (w / 2 - w / 8)) w) refl w e)
+
 pub modulus-pos : (a : ℕ) → isModulus a ≡ true → 0 < a
 modulus-pos a e = ltb-true 0 a (all-moduli (ltb 0) refl a e)
 

@@ -7,14 +7,11 @@ use Rattle.convention.specs.declared.Table.{Table}
 use Rattle.convention.specs.declared.Transition.{Transition}
 use Rattle.convention.specs.Tables.{tableKind, transition}
 use Rattle.convention.specs.Promised.{TableRead}
-use Rattle.convention.proofs.Offsets.{modulus-pos, divides}
+use Rattle.convention.proofs.Offsets.{divides}
 use Rattle.convention.proofs.Tables.{transition-registers, transition-residue, transition-next}
 
 module _ (limit : ℕ) (table : Table) (t : List ℕ) (read : TableRead limit table t) (k : ℕ) (below : k < table .head .kinds) where
-  -- The kind's alignment is not 0, and divides A.
-  pub known-aligned : 0 < tableKind table k .alignment
-  known-aligned = modulus-pos (tableKind table k .alignment) (read .kind k below .alignment)
-
+  -- The kind's alignment divides A.
   pub known-divides : tableKind table k .alignment ∣ table .head .modulus
   known-divides = divides (tableKind table k .alignment) (table .head .modulus) (read .kind k below .alignment) (read .head .modulus) (read .kind k below .within)
 

@@ -2,8 +2,11 @@
 use convention::Head;
 use convention::Shape;
 ghost use mathlib.Core.Path.{_≡_};
-ghost use Prim.Native.Nat.{_<_};
-ghost use Rattle.convention.specs.Fields.{isAlignment, shapeNo, shapeOf};
+ghost use mathlib.Core.Bool.{true};
+ghost use Prim.Native.Nat.{_+_, _≤_};
+ghost use lib.ListN.{length, drop};
+ghost use Rattle.convention.specs.Layout.{shapeLength};
+ghost use Rattle.convention.specs.Fields.{isWidth, isAlignment, shapeNo, shapeOf};
 ghost use Rattle.convention.specs.Sheets.{blankShape};
 ghost use Rattle.convention.specs.Shapes.{registersNeeded, rightCount, stackBytes};
 use crate::layout::ALIGNMENT_AT;
@@ -35,6 +38,17 @@ pub fn shape_of(version: u8, s: &[u8]) -> Shape
     }
 }
 
+// The shape whose bytes, which are there, begin at byte `at`.
+pub fn read_shape(version: u8, s: &[u8], at: usize) -> Shape
+    requires { ⌜ at + shapeLength version ≤ length (now s) ⌝ }
+    ensures { λ r. ⌜ r ≡ shapeOf version (drop at (now (s .entry))) ⌝ }
+{
+    Shape {
+        size: s[at + SIZE_AT],
+        alignment: s[at + ALIGNMENT_AT],
+    }
+}
+
 // What stands in the place of a shape that a file does not have.
 pub fn blank_shape() -> Shape
     ensures { λ r. ⌜ r ≡ blankShape ⌝ }
@@ -45,13 +59,15 @@ pub fn blank_shape() -> Shape
     }
 }
 
-// 'A kind needs k registers, size / w rounded up.'
+// 'A kind needs k registers, size / w rounded up.' A width is a power of two, so the division is a shift: by 0, 1, 2 and 3 for
+// the widths 1, 2, 4 and 8, which is w / 2 - w / 8.
 pub fn registers_needed(width: u8, shape: Shape) -> u8
-    requires { ⌜ 0 < width ⌝ }
+    requires { ⌜ isWidth width ≡ true ⌝ }
     ensures { λ r. ⌜ r ≡ registersNeeded width shape ⌝ }
 {
-    let bytes = shape.size as u16 + width as u16;
-    ((bytes - 1) / width as u16) as u8
+    let shift = width / 2 - width / 8;
+    let bytes = shape.size as u32 + width as u32;
+    ((bytes - 1) >> shift as u32) as u8
 }
 
 // Whether a count of registers is right: they have room for the size.

@@ -1,24 +1,34 @@
 -- Why the best of the lists found is the least of them: nothing is watched first, and then a register at a time.
-use Prim.Native.Nat.{ℕ, _+_, _-_, _≤_}
+use Prim.Native.Nat.{ℕ, _+_, _-_, _≤_, _<_}
 use native.Mathlib.Omega.{arith}
-use mathlib.Core.Path.{_≡_}
+use mathlib.Core.Path.{_≡_, sym, _∙_}
 use mathlib.Core.Logic.{inl, inr}
+use mathlib.Core.Bool.{Bool, true}
 use mathlib.Core.List.{List}
 use lib.ListN.{length}
 use Rattle.convention.specs.declared.Reg.{Reg}
 use Rattle.convention.specs.declared.Table.{Table}
 use Rattle.convention.specs.Numbers.{stateLimit}
+use Rattle.convention.specs.Rules.{freeRun}
 use Rattle.convention.specs.Promised.{TableRead}
+use Rattle.convention.proofs.Runs.{free-each}
+use Rattle.stepping.specs.Sets.{setOf}
+use Rattle.certifying.specs.Certified.{OnceBut}
 use Rattle.judging.specs.declared.steps.Watch.the-variants.{Register, Nothing}
-use Rattle.judging.specs.Watched.{nodes}
+use Rattle.judging.specs.Watched.{nodes, WatchedBelow}
 use Rattle.judging.specs.Memory.{foundEnd, bestEnd, listAt}
 use Rattle.judging.specs.Listed.{ListsAsk, KeepAsks, kept, Stays, Changes, BetterIs}
-use Rattle.judging.specs.Found.{FindAsks, FindIs, BestIs}
+use Rattle.judging.specs.Found.{FindAsks, FindIs, BestIs, NextAsks}
 use Rattle.judging.proofs.Finding.{slice-same, room-stays}
 use Rattle.judging.proofs.Listing.{kept-list}
-use Rattle.judging.proofs.Least.{none-first, least-only, none-on, least-new, least-on, least-kept, least-changed}
+use Rattle.judging.proofs.Least.{none-first, least-only, none-on, least-new, least-on, least-kept, least-changed, none-once, least-once}
 
--- What is found where nothing is watched can be kept, and is the best before the first register.
+-- Nothing can be watched,
+pub first-watches : WatchedBelow 16 Nothing
+unfolding WatchedBelow
+first-watches = tt
+
+-- and what is found then can be kept, and is the best before the first register.
 module _ (table : Table) (t before : List ℕ) (asks : FindAsks table t before) (found : ℕ) (mid : List ℕ)
     (find : FindIs table t Nothing before found mid) (long : length mid ≡ length before) where
   pub first-keeps : KeepAsks (nodes table) mid found
@@ -38,11 +48,38 @@ module _ (table : Table) (t before : List ℕ) (asks : FindAsks table t before) 
 abbrev register : ℕ → Reg
 register i = record { 0 = i }
 
+-- What going on to register i asks.
+pub next-asks : (table : Table) (t : List ℕ) (twice i best : ℕ) (work : List ℕ) → TableRead stateLimit table t → OnceBut table t twice → i < table .head .registers
+    → BestIs table t i best work → NextAsks table t twice i best work
+next-asks table t twice i best work read but h half = record { read = read; but = but; inside = h; half = half }
+
 -- The best before register i.
-module _ (table : Table) (t : List ℕ) (i best : ℕ) (work : List ℕ) (half : BestIs table t i best work) where
-  -- The register can be watched.
-  pub best-finds : TableRead stateLimit table t → FindAsks table t work
-  best-finds read = record { read = read; room = half .room }
+module _ (table : Table) (t : List ℕ) (twice i best : ℕ) (work : List ℕ) (asks : NextAsks table t twice i best work) where
+  abbrev half : BestIs table t i best work
+  half = asks .half
+
+  -- It is one of the sixteen.
+  pub next-within : i + 1 ≤ 16
+  next-within = omega (arith, asks .inside, asks .read .head .registers)
+
+  -- Where it is never given twice the best stays,
+  pub best-skips : (free : Bool) → free ≡ freeRun (setOf 16 twice) i 1 → free ≡ true → BestIs table t (i + 1) best work
+  best-skips free e y =
+      let once = asks .but .once i (omega (arith, next-within)) (free-each (setOf 16 twice) i 1 (sym e ∙ y) i (omega arith) (omega arith)) in
+      record {
+        none = λ z. none-once stateLimit table t (asks .read) (register i) once (half .none z);
+        some = λ p. least-once stateLimit table t (asks .read) (register i) once _ (half .some p);
+        short = half .short;
+        room = half .room;
+      }
+
+  -- and else it can be watched.
+  pub best-finds : FindAsks table t work
+  best-finds = record { read = asks .read; room = half .room }
+
+  pub best-watches : WatchedBelow 16 (Register (register i))
+  unfolding WatchedBelow
+  best-watches = omega (arith, next-within)
 
   module _ (found : ℕ) (mid : List ℕ) (find : FindIs table t (Register (register i)) work found mid) (long : length mid ≡ length work) where
     -- What is found there can be compared with the best.

@@ -19,7 +19,7 @@ use Rattle.exploring.specs.Memory.{callerAt, EntryRoom}
 use Rattle.exploring.specs.Stored.{Stored, StartIs, PathIs}
 use Rattle.exploring.proofs.Paths.{path-asks}
 use Rattle.judging.specs.declared.steps.Watch.{Watch}
-use Rattle.judging.specs.Watched.{watchedSteps, watched, nodes, scan}
+use Rattle.judging.specs.Watched.{watchedSteps, watched, nodes, scan, WatchedBelow}
 use Rattle.judging.specs.Memory.{foundEnd, listAt, SearchRoom}
 use Rattle.judging.specs.Searched.{SearchAsks, SearchIs}
 use Rattle.judging.specs.Listed.{FoundAsks, FoundIs}
@@ -96,9 +96,9 @@ module _ (table : Table) (t : List ℕ) (watch : Watch) (before : List ℕ) (ask
 
   module _ (start : List ℕ) (is : StartIs (nodes table) before start) where
     -- The start is met.
-    pub find-searches : SearchAsks table t watch start
+    pub find-searches : WatchedBelow 16 watch → SearchAsks table t watch start
     unfolding met
-    find-searches = record { read = asks .read; holds = is .start (watchedSteps table t watch) }
+    find-searches below = record { read = asks .read; below = below; holds = is .start (watchedSteps table t watch) }
 
     module _ (i k : ℕ) (work : List ℕ) (searched : SearchIs table t watch start i k work) where
       -- The best list is untouched.

@@ -12,7 +12,7 @@ use Rattle.convention.specs.declared.Table.{Table}
 use Rattle.convention.specs.Explored.{entry, path}
 use Rattle.convention.specs.Orders.{NotAfter}
 use Rattle.convention.specs.Promised.{TableRead}
-use Rattle.convention.proofs.Shortlex.{not-after-trans, not-after-snoc}
+use Rattle.convention.proofs.Shortlex.{not-after-snoc}
 use Rattle.convention.specs.Scanned.{Sooner}
 use Rattle.convention.proofs.Numbered.{numbered-decides}
 use Rattle.convention.proofs.Exploring.{leads, earliest, sooner-before, path-short}
@@ -44,7 +44,7 @@ module _ (table : Table) (t : List ℕ) (watch : Watch) where
   ]
 
   -- So its list is not before that of the first.
-  lists-later : (i k : ℕ) → FirstHit table t watch i k → (j q : ℕ) → Hit table t watch j q → NotAfter (hitList table t watch i k) (hitList table t watch j q)
+  pub lists-later : (i k : ℕ) → FirstHit table t watch i k → (j q : ℕ) → Hit table t watch j q → NotAfter (hitList table t watch i k) (hitList table t watch j q)
   lists-later i k f j q h = elim (hits-later i k f j q h) [
     | inl e ↦ inl (rw (e .0, e .1))
     | inr o ↦ inr (sooner-before (watched table t watch) (scan table t watch) (watched-tree table t watch (nodes table)) i k j q (h .inside) o)
@@ -68,11 +68,6 @@ module _ (limit : ℕ) (table : Table) (t : List ℕ) (read : TableRead limit ta
       let (i, inside, node, n) = earliest (watched table t watch) (numbered-decides (watchedSteps table t watch)) _ (nodes table) (watched-scanned table t watch (nodes table)) whole ks (f .node) (f .leads) in
       (i, record { inside = inside; below = f .below; faulty = rw node (f .faulty) }, not-after-snoc _ ks k n)
 
-  -- So the first hit's list is not after any list that ends faulty,
-  pub first-hit : (i k : ℕ) → FirstHit table t watch i k → (ks : List ℕ) (q : ℕ) → EndsFaulty table t watch ks q
-      → NotAfter (hitList table t watch i k) (ks ++ q ∷ [])
-  first-hit i k f ks q e = let (j, h, n) = ends-hit ks q e in not-after-trans _ _ _ (lists-later table t watch i k f j q h) n
-
-  -- and where nothing hits no list ends faulty.
+  -- So where nothing hits no list ends faulty.
   pub no-hit : NoHit table t watch → (ks : List ℕ) (k : ℕ) → EndsFaulty table t watch ks k → ⊥
   no-hit none ks k e = let (i, h, n) = ends-hit ks k e in none i k h

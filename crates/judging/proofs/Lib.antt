@@ -1,6 +1,7 @@
 pub mod Runs
 pub mod Fronts
 pub mod Watched
+pub mod Once
 pub mod Hits
 pub mod Least
 pub mod Verdict

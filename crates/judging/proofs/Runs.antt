@@ -15,7 +15,7 @@ use Rattle.judging.specs.Watched.{covers}
 pub in-run : (first count : ℕ) (r : Reg) → first ≤ r .0 → r .0 < first + count → covers first count r ≡ true
 in-run first count r h k = rw (le-leb first (r .0) h) (lt-ltb (r .0) (first + count) k)
 
-run-in : (first count : ℕ) (r : Reg) → covers first count r ≡ true → (first ≤ r .0) × (r .0 < first + count)
+pub run-in : (first count : ℕ) (r : Reg) → covers first count r ≡ true → (first ≤ r .0) × (r .0 < first + count)
 run-in first count r e = let both = and-eq-true-iff _ _ .0 e in (leb-true first (r .0) (both .0), ltb-true (r .0) (first + count) (both .1))
 
 -- Where it was marked, taken is what was before, and what the run covers.

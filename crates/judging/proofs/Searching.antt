@@ -7,18 +7,25 @@ use mathlib.Core.List.{List}
 use lib.ListN.{length}
 use borrow.Author.Count.{below-more}
 use borrow.Author.Tests.{eq-eqb}
+use Rattle.convention.specs.declared.Shape.{Shape}
 use Rattle.convention.specs.declared.Table.{Table}
+use Rattle.convention.specs.declared.Transition.{Transition}
 use Rattle.convention.specs.Numbers.{stateLimit}
+use Rattle.convention.specs.Tables.{tableKind, transition}
 use Rattle.convention.specs.Explored.{Automaton, meet, metFrom, met, metUpTo}
 use Rattle.convention.proofs.Numbering.{whole, upTo-all, upTo-there, upTo-grows, upTo-node}
 use Rattle.convention.proofs.Numbered.{entries-below}
+use Rattle.table.specs.Within.{InTable}
+use Rattle.walking.specs.TableSteps.{FaultAsks}
+use Rattle.walking.proofs.Steps.{fault-asks}
 use Rattle.exploring.specs.Memory.{pairKinds}
 use Rattle.exploring.specs.Stored.{MeetAsks, MeetIs, entryOf, countAfter, EntryAsks, EntryIs}
 use Rattle.exploring.proofs.Meeting.{meet-asks, entry-asks}
 use Rattle.judging.specs.declared.steps.Watch.{Watch}
-use Rattle.judging.specs.Watched.{watchedSteps, watched, nodes, scan, nodeFault, nodeAfter, Hit}
+use Rattle.judging.specs.Watched.{nodeState, nodeFlag, watchedSteps, watched, nodes, scan, nodeFault, nodeAfter, Hit}
 use Rattle.judging.specs.Searched.{WatchedStepIs, ListsStay, ThroughAsks, nodeHere, GoingThrough, ThroughIs, SearchAsks, Searching, SearchIs}
-use Rattle.judging.proofs.Watched.{watched-tree, watched-bounded}
+use Rattle.judging.proofs.Watched.{watched-tree, watched-bounded, after-below}
+use Rattle.judging.proofs.Stepping.{step-fault, step-after}
 
 -- ---- the kinds from entry i
 
@@ -36,6 +43,9 @@ module _ (table : Table) (t : List ℕ) (watch : Watch) (i node first : ℕ) (be
       let bounded = watched-bounded stateLimit table t (asks .read) watch in
       rw (asks .here) (entries-below (watchedSteps table t watch) (nodes table) bounded (met walk i) (watched-tree table t watch i) i there)
 
+  pub through-state : nodeState node < stateLimit
+  through-state = omega (arith, through-inside, asks .read .states)
+
   -- Before the first kind.
   pub through-begin : GoingThrough table t watch i before 0 first before
   unfolding metFrom
@@ -46,39 +56,55 @@ module _ (table : Table) (t : List ℕ) (watch : Watch) (i node first : ℕ) (be
     pub through-end : table .head .kinds ≤ k → ThroughIs table t watch i before k count work
     through-end h = record { through = through; faulty = λ l. absurd (omega arith) }
 
-    module _ (h : k < table .head .kinds) (fault next : ℕ) (step : WatchedStepIs table t watch node k fault next) where
-      -- It is faulty.
-      pub through-hit : (fault ≡ 0 → ⊥) → ThroughIs table t watch i before k count work
-      through-hit nz = record { through = through; faulty = λ _. rw (← asks .here, ← step .faults) (omega (arith, nz)) }
+    module _ (h : k < table .head .kinds) where
+      -- The table has it.
+      pub through-in : InTable table (nodeState node) k
+      through-in = record { state = omega (arith, through-inside); kind = h }
 
-      module _ (z : fault ≡ 0) where
-        -- It is not, and where it leads can be met.
-        pub through-meets : MeetAsks (nodes table) work count next i k
-        through-meets =
-            let small : k < pairKinds = omega (arith, asks .read .head .kinds) in
-            let from : i < count = omega (arith, upTo-there walk i there k, through .holds .counted) in
-            meet-asks (watchedSteps table t watch) (nodes table) _ count work (through .holds) next i k (step .inside) from small
+      pub through-kind : k < 8
+      through-kind = omega (arith, asks .read .head .kinds)
 
-        clean-here : nodeFault table t watch (nodeHere table t watch i) k ≡ 0
-        clean-here = rw (← asks .here) (sym (step .faults) ∙ z)
+      module _ (x : Transition) (ex : x ≡ transition table t (nodeState node) k) (shape : Shape) (es : shape ≡ tableKind table k) where
+        pub through-asks : FaultAsks shape x
+        through-asks = fault-asks table t (nodeState node) k (asks .read) through-in shape x es ex
 
-        leads : next ≡ nodeAfter table t watch (nodeHere table t watch i) k
-        leads = step .after ∙ rw (asks .here)
+        module _ (fault next : ℕ) (step : WatchedStepIs (table .head) shape x watch (nodeFlag node) fault next) where
+          faults : fault ≡ nodeFault table t watch (nodeHere table t watch i) k
+          faults = rw (← asks .here) (step-fault table t node k x ex shape es watch fault next step)
 
-        grown : metUpTo walk i (suc k) ≡ meet walk (metUpTo walk i k) (entryOf (watchedSteps table t watch) next i k)
-        unfolding metFrom
-        grown = rw (eq-eqb (nodeFault table t watch (nodeHere table t watch i) k) 0 clean-here, metFrom, leads)
+          -- It is faulty.
+          pub through-hit : (fault ≡ 0 → ⊥) → ThroughIs table t watch i before k count work
+          through-hit nz = record { through = through; faulty = λ _. rw (← faults) (omega (arith, nz)) }
 
-        -- One more kind gone through.
-        pub through-turn : (number more : ℕ) (after : List ℕ) → MeetIs (nodes table) work count next i k number after → more ≡ countAfter count number
-            → length after ≡ length work → GoingThrough table t watch i before (k + 1) more after
-        through-turn number more after is e long = record {
-          within = omega arith;
-          clean = below-more (λ q. nodeFault table t watch (nodeHere table t watch i) q ≡ 0) k (through .clean) clean-here;
-          holds = rw (add-one, grown, e) (is .meets (watchedSteps table t watch) (metUpTo walk i k) (through .holds));
-          lists = is .others ∙ through .lists;
-          long = long ∙ through .long;
-        }
+          module _ (z : fault ≡ 0) where
+            leads : next ≡ nodeAfter table t watch node k
+            leads = step-after table t node k x ex shape es watch fault next step
+
+            -- It is not, and where it leads can be met.
+            pub through-meets : MeetAsks (nodes table) work count next i k
+            through-meets =
+                let inside : next < nodes table = rw leads (after-below stateLimit table t (asks .read) watch node k through-inside h) in
+                let small : k < pairKinds = omega (arith, asks .read .head .kinds) in
+                let from : i < count = omega (arith, upTo-there walk i there k, through .holds .counted) in
+                meet-asks (watchedSteps table t watch) (nodes table) _ count work (through .holds) next i k inside from small
+
+            clean-here : nodeFault table t watch (nodeHere table t watch i) k ≡ 0
+            clean-here = sym faults ∙ z
+
+            grown : metUpTo walk i (suc k) ≡ meet walk (metUpTo walk i k) (entryOf (watchedSteps table t watch) next i k)
+            unfolding metFrom
+            grown = rw (eq-eqb (nodeFault table t watch (nodeHere table t watch i) k) 0 clean-here, metFrom, leads, asks .here)
+
+            -- One more kind gone through.
+            pub through-turn : (number more : ℕ) (after : List ℕ) → MeetIs (nodes table) work count next i k number after → more ≡ countAfter count number
+                → length after ≡ length work → GoingThrough table t watch i before (k + 1) more after
+            through-turn number more after is e long = record {
+              within = omega arith;
+              clean = below-more (λ q. nodeFault table t watch (nodeHere table t watch i) q ≡ 0) k (through .clean) clean-here;
+              holds = rw (add-one, grown, e) (is .meets (watchedSteps table t watch) (metUpTo walk i k) (through .holds));
+              lists = is .others ∙ through .lists;
+              long = long ∙ through .long;
+            }
 
 -- ---- the entries
 
@@ -110,6 +136,7 @@ module _ (table : Table) (t : List ℕ) (watch : Watch) (before : List ℕ) (ask
       pub search-through : (node : ℕ) → EntryIs (nodes table) work i node → ThroughAsks table t watch i node count work
       search-through node e = record {
         read = asks .read;
+        below = asks .below;
         holds = searching .holds;
         inside = h;
         here = e .is (watchedSteps table t watch) _ count (searching .holds) h;

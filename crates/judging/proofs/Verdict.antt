@@ -1,5 +1,5 @@
--- Why the least of the first hits' lists is the verdict: a faulty list has a front that ends faulty in some watched walk, the first hit of that walk
--- has a list that is not after it, and every hit's list is faulty.
+-- Why the least of the hits' lists is the verdict: a faulty list has a front that ends faulty in some watched walk, a hit of that walk has a list that
+-- is not after it, and every hit's list is faulty.
 use Prim.Native.Nat.{ℕ, suc, _+_, _≤_}
 use native.Mathlib.Nat.{eq-or-lt-of-le}
 use native.Mathlib.Omega.{arith}
@@ -20,7 +20,7 @@ use Rattle.judging.specs.declared.steps.Watch.{Watch}
 use Rattle.judging.specs.Watched.{Hit, hitList, WatchedBelow, NoHitBelow, LeastBelow}
 use Rattle.judging.proofs.Fronts.{front-before, front-not-after, stops, stop-faulty}
 use Rattle.judging.proofs.Watched.{EndsFaulty, some-watches, watched-faulty}
-use Rattle.judging.proofs.Hits.{hit-ends, hit-short, ends-hit, first-hit, no-hit}
+use Rattle.judging.proofs.Hits.{hit-ends, hit-short, ends-hit, no-hit}
 
 -- Where the walk over a list stops.
 abbrev pub stopOf : List ℕ → List ℕ → ℕ
@@ -76,17 +76,13 @@ module _ (limit : ℕ) (t : List ℕ) (read : TableRead limit (tableOf t) t) whe
           let w = faulty-watched ks f in
           no-hit limit (tableOf t) t read (w .watch) (n (w .watch) (w .among)) (w .front) (w .kind) (w .ends)
 
-  -- The least of the first hits' lists is not after any faulty list;
+  -- The least of the hits' lists is not after any faulty list;
   least-not-after : (ks : List ℕ) → LeastBelow (tableOf t) t (tableOf t .head .registers) ks
       → (ks′ : List ℕ) → FaultyList t ks′ → NotAfter ks ks′
   least-not-after ks l ks′ f =
       let w = faulty-watched ks′ f in
-      elim (l .least (w .watch) (w .among)) [
-        | inl none ↦ absurd (no-hit limit (tableOf t) t read (w .watch) none (w .front) (w .kind) (w .ends))
-        | inr (i, k, h, n) ↦
-            let first = first-hit limit (tableOf t) t read (w .watch) i k h (w .front) (w .kind) (w .ends) in
-            not-after-trans _ _ _ n (not-after-trans _ _ _ first (w .not-after))
-      ]
+      let (i, h, n) = ends-hit limit (tableOf t) t read (w .watch) (w .front) (w .kind) (w .ends) in
+      not-after-trans _ _ _ (l .least (w .watch) (w .among) i (w .kind) h) (not-after-trans _ _ _ n (w .not-after))
 
   -- so it is the verdict's list,
   pub least-first : (ks : List ℕ) → LeastBelow (tableOf t) t (tableOf t .head .registers) ks → FirstFaulty t (listFault t ks) ks

@@ -130,7 +130,7 @@ abbrev pub nodeAt : Watch → ByTable → ℕ
 nodeAt watch s = nodeOf (s .state) (amongGiven (s .given) watch)
 
 -- The fault there is that of the step, as far as what is watched tells; and so is the node after it that of the state after it.
-node-fault : (table : Table) (t : List ℕ) (watch : Watch) (s : ByTable) (k : ℕ) → nodeFault table t watch (nodeAt watch s) k
+pub node-fault : (table : Table) (t : List ℕ) (watch : Watch) (s : ByTable) (k : ℕ) → nodeFault table t watch (nodeAt watch s) k
     ≡ watchedFault (table .head) (tableKind table k) (transition table t (s .state) k) (amongGiven (s .given) watch && givesWatched (transition table t (s .state) k) watch)
 unfolding nodeFault
 node-fault table t watch s k = rw (node-state, node-flag)
@@ -141,7 +141,7 @@ unfolding tableAfter
 node-after h x s within watch = ap (nodeOf (x .next)) (given-after h x s within watch)
 
 -- At first nothing that is watched is given.
-none-among : (watch : Watch) → amongGiven noRegisters watch ≡ false
+pub none-among : (watch : Watch) → amongGiven noRegisters watch ≡ false
 none-among (Register r) = none-taken 16 (r .0)
 none-among Nothing = refl
 
@@ -176,7 +176,7 @@ module _ (limit : ℕ) (table : Table) (t : List ℕ) (read : TableRead limit ta
   nodes-few watch n = entries-few (watchedSteps table t watch) (nodes table) (watched-bounded watch) _ (watched-tree table t watch n)
 
   -- A watched walk steps with the walk.
-  step-tied : (s : ByTable) (w : Walking table s) (k : ℕ) (below : k < table .head .kinds) (watch : Watch)
+  pub step-tied : (s : ByTable) (w : Walking table s) (k : ℕ) (below : k < table .head .kinds) (watch : Watch)
       → nodeAfter table t watch (nodeAt watch s) k ≡ nodeAt watch (tableAfter (table .head) (transition table t (s .state) k) s)
   unfolding nodeAfter
   step-tied s w k below watch =

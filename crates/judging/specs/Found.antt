@@ -7,6 +7,7 @@ use Rattle.convention.specs.declared.Table.{Table}
 use Rattle.convention.specs.Numbers.{stateLimit}
 use Rattle.convention.specs.Tables.{tableNo, tableOf}
 use Rattle.convention.specs.Promised.{TableRead}
+use Rattle.certifying.specs.Certified.{OnceBut}
 use Rattle.judging.specs.declared.steps.Watch.{Watch}
 use Rattle.judging.specs.Watched.{nodes, FirstHit, NoHit, hitList, NoHitBelow, LeastBelow}
 use Rattle.judging.specs.Memory.{foundEnd, bestEnd, listAt, SearchRoom}
@@ -30,9 +31,20 @@ pub record BestIs (table : Table) (t : List ℕ) (upTo n : ℕ) (work : List ℕ
   pub short : n ≤ nodes table
   pub room : SearchRoom (nodes table) work
 
--- A table that was read from t, room to search it, and room for its list.
-pub record JudgeAsks (table : Table) (t work out : List ℕ) : Type 0 where
+-- A table that was read, each register that may be given twice, and the best list for the registers below i, which is one of the table's.
+pub record NextAsks (table : Table) (t : List ℕ) (twice i best : ℕ) (work : List ℕ) : Type 0 where
+  pub read : TableRead stateLimit table t
+  pub but : OnceBut table t twice
+  pub inside : i < table .head .registers
+  pub half : BestIs table t i best work
+
+-- A table that was read from t, and room for its list.
+pub record JudgeAsks (table : Table) (t out : List ℕ) : Type 0 where
   pub right : tableNo stateLimit t ≡ 0
   pub is : table ≡ tableOf t
-  pub room : bestEnd (nodes table) ≤ length work
   pub fits : nodes table ≤ length out
+
+-- The same, and room to search it.
+pub record JudgeInAsks (table : Table) (t work out : List ℕ) : Type 0 where
+  pub asks : JudgeAsks table t out
+  pub room : bestEnd (nodes table) ≤ length work

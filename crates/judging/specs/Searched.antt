@@ -1,27 +1,25 @@
 -- What the functions of the search promise one another: which entries the working memory holds, and what was found there.
 use Prim.Native.Nat.{ℕ, _≤_, _<_}
 use mathlib.Core.Path.{_≡_}
+use mathlib.Core.Bool.{Bool, _&&_, _||_}
 use mathlib.Core.List.{List}
 use lib.ListN.{length, drop}
+use Rattle.convention.specs.declared.Head.{Head}
+use Rattle.convention.specs.declared.Shape.{Shape}
 use Rattle.convention.specs.declared.Table.{Table}
+use Rattle.convention.specs.declared.Transition.{Transition}
 use Rattle.convention.specs.Numbers.{stateLimit}
 use Rattle.convention.specs.Explored.{Entry, entry, met, metUpTo}
 use Rattle.convention.specs.Promised.{TableRead}
 use Rattle.exploring.specs.Memory.{callerAt}
 use Rattle.exploring.specs.Stored.{Stored}
 use Rattle.judging.specs.declared.steps.Watch.{Watch}
-use Rattle.judging.specs.Watched.{watchedSteps, watched, nodes, nodeFault, nodeAfter, Hit, FirstHit, NoHit}
+use Rattle.judging.specs.Watched.{nodeOf, givesWatched, watchedFault, watchedSteps, watched, nodes, nodeFault, Hit, FirstHit, NoHit, WatchedBelow}
 
--- A step of kind k from a node, of a table that was read; its fault, and the node after it.
-pub record WatchedStepAsks (table : Table) (t : List ℕ) (node k : ℕ) : Type 0 where
-  pub read : TableRead stateLimit table t
-  pub inside : node < nodes table
-  pub below : k < table .head .kinds
-
-pub record WatchedStepIs (table : Table) (t : List ℕ) (watch : Watch) (node k fault next : ℕ) : Type 0 where
-  pub faults : fault ≡ nodeFault table t watch node k
-  pub after : next ≡ nodeAfter table t watch node k
-  pub inside : next < nodes table
+-- The step that a transition makes for a kind of this shape, where what is watched was given before it or was not: its fault, and the node after it.
+pub record WatchedStepIs (h : Head) (shape : Shape) (x : Transition) (watch : Watch) (given : Bool) (fault next : ℕ) : Type 0 where
+  pub faults : fault ≡ watchedFault h shape x (given && givesWatched x watch)
+  pub after : next ≡ nodeOf (x .next) (given || givesWatched x watch)
 
 -- The node of entry i, where the entries below i were gone through.
 abbrev pub nodeHere : Table → List ℕ → Watch → ℕ → ℕ
@@ -38,6 +36,7 @@ ListsStay table before work = drop (callerAt (nodes table)) work ≡ drop (calle
 -- Going through the kinds from there, of a table that was read.
 pub record ThroughAsks (table : Table) (t : List ℕ) (watch : Watch) (i node count : ℕ) (work : List ℕ) : Type 0 where
   pub read : TableRead stateLimit table t
+  pub below : WatchedBelow 16 watch
   pub holds : HoldsWatched table t watch (met (watched table t watch) i) count work
   pub inside : i < count
   pub here : node ≡ nodeHere table t watch i
@@ -58,6 +57,7 @@ pub record ThroughIs (table : Table) (t : List ℕ) (watch : Watch) (i : ℕ) (b
 -- Searching a table that was read, where the memory holds the start alone.
 pub record SearchAsks (table : Table) (t : List ℕ) (watch : Watch) (work : List ℕ) : Type 0 where
   pub read : TableRead stateLimit table t
+  pub below : WatchedBelow 16 watch
   pub holds : HoldsWatched table t watch (met (watched table t watch) 0) 1 work
 
 -- The entries below i were gone through, and none hits.

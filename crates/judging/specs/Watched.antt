@@ -3,7 +3,6 @@
 -- whether what is watched was given, and a step that is faulty as far as that tells leads nowhere.
 use Prim.Native.Nat.{ℕ, _+_, _*_, _/_, _%_, _<_}
 use mathlib.Core.Path.{_≡_}
-use mathlib.Core.Logic.{_⊎_}
 use mathlib.Core.Bool.{Bool, false, not, cond, _&&_, _||_}
 use mathlib.Core.List.{List, [], _∷_, _++_}
 use lib.Dec.{ltb, leb, eqb}
@@ -18,6 +17,7 @@ use Rattle.convention.specs.Tables.{tableKind, transition}
 use Rattle.convention.specs.Rules.{noRegisters}
 use Rattle.convention.specs.Walked.{tableFault}
 use Rattle.convention.specs.Orders.{NotAfter}
+use Rattle.stepping.specs.Sets.{runBits}
 use Rattle.convention.specs.Explored.{Automaton, Numbered, numbered, Entry, entry, met, path}
 use Rattle.judging.specs.declared.steps.Watch.{Watch}
 use Rattle.judging.specs.declared.steps.Watch.the-variants.{Register, Nothing}
@@ -35,6 +35,11 @@ nodeFlag node = eqb (node % 2) 1
 -- Whether r is a register of the run of `count` from `first` on.
 abbrev pub covers : ℕ → ℕ → Reg → Bool
 covers first count r = leb first (r .0) && ltb (r .0) (first + count)
+
+-- What is watched as the number of a set of registers.
+unfoldable pub watchedBits : Watch → ℕ
+watchedBits (Register r) = runBits (r .0) 1
+watchedBits Nothing = 0
 
 -- Whether a transition gives what is watched: a register of its run. Where nothing is watched it never does.
 unfoldable pub givesWatched : Transition → Watch → Bool
@@ -99,8 +104,8 @@ WatchedBelow upTo Nothing = Unit {0}
 abbrev pub NoHitBelow : Table → List ℕ → ℕ → Type 0
 NoHitBelow table t upTo = (watch : Watch) → WatchedBelow upTo watch → NoHit table t watch
 
--- A hit's list, and not after the first hit's list of any of those walks that hits.
+-- A hit's list, and not after any hit's list of those walks.
 pub record LeastBelow (table : Table) (t : List ℕ) (upTo : ℕ) (ks : List ℕ) : Type 0 where
   pub found : (watch : Watch) × (i k : ℕ) × Hit table t watch i k × (ks ≡ hitList table t watch i k)
   pub least : (watch : Watch) → WatchedBelow upTo watch
-      → NoHit table t watch ⊎ ((i k : ℕ) × FirstHit table t watch i k × NotAfter ks (hitList table t watch i k))
+      → (i k : ℕ) → Hit table t watch i k → NotAfter ks (hitList table t watch i k)

@@ -11,7 +11,8 @@ struct GoneThrough {
     count: usize,
 }
 
-// Goes through the kinds from entry i, whose node it is, up to the first that is faulty, and meets where they lead.
+// Goes through the kinds from entry i, whose node it is, up to the first that is faulty, and meets where they lead. The kind is
+// taken here and not in a function of its own, which would copy the table's kinds for each transition.
 fn go_through(
     table: Table,
     t: &[u8],
@@ -24,12 +25,17 @@ fn go_through(
     requires { ⌜ ThroughAsks table (now t) watch i node count (now work) ⌝ }
     ensures { λ v. ⌜ ThroughIs table (now (t .entry)) watch i (now (work .entry)) (v .kind) (v .count) (now (work .exit)) ⌝ }
 {
-    let kinds = table.head.kinds;
+    let head = table.head;
+    let kinds = head.kinds;
     let nodes = 2 * table.states as usize;
+    let state = (node / 2) as u16;
+    let given = node % 2 == 1;
     let mut met = count;
     let mut k: u8 = 0;
     while k < kinds {
-        let step = steps::step(table, t, watch, node, k);
+        let x = table::transition_of(table, t, state, k);
+        let shape = table.kinds[k as usize];
+        let step = steps::step(head, shape, x, watch, given);
         if step.fault != 0 {
             return GoneThrough {
                 kind: k,

@@ -3,12 +3,12 @@
 use convention::Head;
 use convention::Reg;
 use convention::Shape;
-use convention::Table;
 use convention::Transition;
 ghost use mathlib.Core.Path.{_≡_};
+ghost use Prim.Native.Nat.{_+_, _≤_};
 ghost use Rattle.walking.specs.TableSteps.{FaultAsks};
-ghost use Rattle.judging.specs.Watched.{nodeOf, givesWatched, watchedFault};
-ghost use Rattle.judging.specs.Searched.{WatchedStepAsks, WatchedStepIs};
+ghost use Rattle.judging.specs.Watched.{nodeOf, watchedBits, givesWatched, watchedFault, WatchedBelow};
+ghost use Rattle.judging.specs.Searched.{WatchedStepIs};
 
 // What a walk watches: a register, or nothing.
 pub(crate) enum Watch {
@@ -16,17 +16,25 @@ pub(crate) enum Watch {
     Nothing,
 }
 
-// Whether a transition gives what is watched.
-fn gives(x: Transition, watch: Watch) -> bool
-    ensures { λ b. ⌜ b ≡ givesWatched x watch ⌝ }
+// The set of what is watched, a bit for each register.
+fn watched_set(watch: Watch) -> u32
+    requires { ⌜ WatchedBelow 16 watch ⌝ }
+    ensures { λ r. ⌜ r ≡ watchedBits watch ⌝ }
 {
     match watch {
-        Watch::Register(r) => {
-            let end = x.a as u16 + x.b as u16;
-            (x.form == 1) & ((x.a <= r.0) & ((r.0 as u16) < end))
-        }
-        Watch::Nothing => false,
+        Watch::Register(r) => stepping::run(r, 1),
+        Watch::Nothing => 0,
     }
+}
+
+// Whether a transition gives what is watched.
+fn gives(x: Transition, watch: Watch) -> bool
+    requires { ⌜ (x .form ≡ 1 → x .a + x .b ≤ 16) ⌝ }
+    requires { ⌜ WatchedBelow 16 watch ⌝ }
+    ensures { λ b. ⌜ b ≡ givesWatched x watch ⌝ }
+{
+    let watched = watched_set(watch);
+    walking::give(x, 0) & watched != 0
 }
 
 // The fault of a step as far as what is watched tells: 2 where that is given once more, and else that of a step before which
@@ -38,7 +46,7 @@ fn watched_fault(head: Head, shape: Shape, x: Transition, again: bool) -> u8
     if again {
         return 2;
     }
-    walking::step_fault(head, shape, x, [false; 16])
+    walking::step_fault(head, shape, x, 0)
 }
 
 // The node of a state.
@@ -58,17 +66,18 @@ pub(crate) struct WatchedStep {
     pub(crate) next: usize,
 }
 
-// The step of kind k from a node. One transition is read. The kinds are taken out of the table, which would be copied whole for
-// an index into it.
-pub(crate) fn step(table: Table, t: &[u8], watch: Watch, node: usize, k: u8) -> WatchedStep
-    requires { ⌜ WatchedStepAsks table (now t) node k ⌝ }
-    ensures { λ s. ⌜ WatchedStepIs table (now (t .entry)) watch node k (s .fault) (s .next) ⌝ }
+// The step that a transition makes for a kind of this shape, where what is watched was given before it or was not.
+pub(crate) fn step(
+    head: Head,
+    shape: Shape,
+    x: Transition,
+    watch: Watch,
+    given: bool,
+) -> WatchedStep
+    requires { ⌜ FaultAsks shape x ⌝ }
+    requires { ⌜ WatchedBelow 16 watch ⌝ }
+    ensures { λ s. ⌜ WatchedStepIs head shape x watch given (s .fault) (s .next) ⌝ }
 {
-    let x = table::transition_of(table, t, (node / 2) as u16, k);
-    let kinds = table.kinds;
-    let shape = kinds[k as usize];
-    let head = table.head;
-    let given = node % 2 == 1;
     let here = gives(x, watch);
     let fault = watched_fault(head, shape, x, given & here);
     let next = node_of(x.next, given | here);

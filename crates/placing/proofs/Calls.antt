@@ -13,17 +13,17 @@ use Rattle.convention.specs.Rules.{byRules, placeByRules, rulesMemory}
 use Rattle.convention.specs.Promised.{SheetRead}
 use Rattle.convention.proofs.Sheets.{sheet-read, sheet-right, sheet-is, sheet-refused, sheet-wrong}
 use Rattle.stepping.specs.Walks.{ListTested, PlacingIs}
-use Rattle.stepping.proofs.Calls.{read-answer, read-memory, unread-answer, unread-memory}
-use Rattle.placing.specs.RulesSteps.{RulesListAsks, RoomAsks}
+use Rattle.stepping.proofs.Calls.{records-room, read-answer, read-memory, unread-answer, unread-memory}
+use Rattle.placing.specs.RulesSteps.{RulesListAsks, DecideAsks}
 
--- A list that passed its tests can be walked, and its records written.
-module _ (sheet : Sheet) (ks out : List ℕ) (number at : ℕ) (read : SheetRead sheet)
-    (tests : ListTested argumentLimit (sheet .head .kinds) ks (length out) number at) (z : number ≡ 0) where
-  pub list-asks : RulesListAsks sheet ks
-  list-asks = record { read = read; listed = tests .listed z }
-
-  pub room-asks : RoomAsks sheet ks out
-  room-asks = record { asked = list-asks; room = tests .roomy z }
+-- A list that passed its tests can be walked.
+pub list-asks : (sheet : Sheet) (ks : List ℕ) (room long number at : ℕ) → DecideAsks sheet ks room long
+    → ListTested argumentLimit (sheet .head .kinds) ks room number at → number ≡ 0 → RulesListAsks sheet ks long
+list-asks sheet ks room long number at asks tests z = record {
+  read = asks .read;
+  listed = tests .listed z;
+  room = records-room argumentLimit (sheet .head .kinds) (byRules sheet) ks room number at tests z long (asks .records);
+}
 
 -- The reader's answer: what it promises where it read the sheet, and the call's answer and memory on either.
 module _ (s : List ℕ) (a : SheetAnswer) (ea : a ≡ readSheet s) where

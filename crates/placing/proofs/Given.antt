@@ -27,7 +27,7 @@ use Rattle.stepping.proofs.Runs.{length-mark}
 use Rattle.stepping.proofs.Accepted.{Accepted, accepted}
 use Rattle.stepping.proofs.Apart.{FreeIn, FromP, StepGives, mark-stays, place-length, apart, p-most}
 use Rattle.convention.specs.Shapes.{pMost}
-use Rattle.placing.proofs.Search.{skipped-free}
+use Rattle.placing.proofs.Starts.{skipped-free}
 use Rattle.placing.proofs.Steps.{aligned, run-ends, stack-end, p-grows}
 
 -- The places of a list by the rules of a sheet.

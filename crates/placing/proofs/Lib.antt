@@ -1,4 +1,4 @@
-pub mod Search
+pub mod Starts
 pub mod Steps
 pub mod Lists
 pub mod Calls

@@ -1,52 +1,44 @@
 -- Laws of one step, on plain values: what its parts ask, and how the place and what comes after it are put together from what each part answers.
 use Prim.Native.Nat.{ℕ, _+_, _%_, _≤_, _<_}
-use mathlib.Core.Path.{_≡_, refl}
-use mathlib.Core.Bool.{Bool}
+use mathlib.Core.Path.{_≡_, refl, _∙_}
+use mathlib.Core.Bool.{Bool, true, false, cond}
 use mathlib.Core.List.{List}
 use native.Mathlib.Omega.{arith}
+use lib.Dec.{ltb}
+use lib.Bits.{bitOr}
 use lib.ListN.{length, getD, take}
-use lib.Seq.{length-take-le, getD-take}
-use borrow.Author.Tests.{lt-ltb, le-ltb, lt-leb, le-leb, eq-eqb, ne-eqb}
+use lib.Seq.{length-take-le, getD-take, take-take}
+use borrow.Author.Tests.{ltb-true, lt-ltb, le-ltb, lt-leb, le-leb, eq-eqb, ne-eqb}
 use Rattle.convention.specs.declared.Head.{Head}
+use Rattle.convention.specs.declared.Shape.{Shape}
 use Rattle.convention.specs.declared.Offset.{Offset}
 use Rattle.convention.specs.declared.SheetKind.{SheetKind}
 use Rattle.convention.specs.declared.Placement.{Placement}
 use Rattle.convention.specs.declared.Placement.the-variants.{Registers, Stack, Nowhere}
 use Rattle.convention.specs.declared.ByRules.{ByRules}
 use Rattle.convention.specs.Offsets.{leastOffset}
-use Rattle.convention.specs.Shapes.{stackBytes}
+use Rattle.convention.specs.Shapes.{stackBytes, stepMost}
 use Rattle.convention.specs.Promised.{HeadRead, SheetKindRead}
-use Rattle.convention.specs.Rules.{markRuns, skippedBefore, skippedOf, startsOf, needed, startTaken, stackOffset}
-use Rattle.convention.specs.Rules.{rulesPlace, placeTaken, placeP, rulesAfter}
-use Rattle.stepping.specs.Ends.{runEnd, stackEnd}
-use Rattle.convention.specs.Shapes.{stepMost}
+use Rattle.convention.specs.Rules.{skippedBefore, skippedOf, startsOf, needed, startTaken, stackOffset, rulesPlace, placeTaken, placeP, rulesAfter}
 use Rattle.convention.proofs.Rules.{place-cases}
 use Rattle.convention.proofs.Shapes.{stack-most}
-use Rattle.convention.proofs.Offsets.{least-lt, width-pos, modulus-pos, modulus-most}
-use Rattle.placing.specs.RulesSteps.{RunsWithin, RunsTried, RulesStepAsks, Searched, PlaceFound}
-use Rattle.placing.proofs.Search.{skipped-le}
+use Rattle.convention.proofs.Offsets.{least-lt, modulus-pos, modulus-most}
+use Rattle.stepping.specs.Ends.{runEnd, stackEnd}
+use Rattle.stepping.specs.Sets.{setOf}
+use Rattle.placing.specs.declared.RulesAt.{RulesAt}
+use Rattle.placing.specs.RulesSteps.{asRules, RunsWithin, SearchIs, PlaceAsks, placeFound, AfterAsks, AfterIs, stateAfter, RulesStepAsks, RulesStepIs}
+use Rattle.placing.proofs.Starts.{skipped-le}
 
 module _ (h : Head) (k : SheetKind) (head : HeadRead h) (kind : SheetKindRead h k) where
-  -- A register has a width.
-  pub wide : 0 < h .width
-  wide = width-pos (h .width) (head .width)
+  -- The starts that are tried are there, and their runs lie within the sixteen.
+  tries-there : k .tries ≤ length (k .starts)
+  tries-there = omega (arith, kind .tries, kind .sixteen)
 
   starts-count : length (startsOf k) ≡ k .tries
-  starts-count = length-take-le (k .tries) (k .starts) (omega (arith, kind .tries, kind .sixteen))
+  starts-count = length-take-le (k .tries) (k .starts) tries-there
 
-  -- The runs of the starts lie within the sixteen, and so do those of the starts that were skipped.
-  pub runs-within : (count : ℕ) → count ≡ needed (h .width) k → RunsWithin k count
-  runs-within count e = record {
-    tries = kind .tries;
-    sixteen = kind .sixteen;
-    starts = λ i l. rw e (omega (arith, kind .starts i l, head .registers));
-  }
-
-  pub runs-tried : (taken : List Bool) (count skipped : ℕ) → count ≡ needed (h .width) k → skipped ≡ skippedOf (h .width) k taken → RunsTried k count skipped
-  runs-tried taken count skipped e f = record {
-    runs = runs-within count e;
-    tried = rw f (omega (arith, starts-count, skipped-le taken (needed (h .width) k) (startsOf k)));
-  }
+  pub runs-within : (count : ℕ) → count ≡ needed (h .width) k → RunsWithin (k .starts) (k .tries) count
+  runs-within count e = record { there = tries-there; within = λ i l. rw e (omega (arith, kind .starts i l, head .registers)) }
 
   -- An alignment is not 0.
   pub aligned : 0 < k .shape .alignment
@@ -59,7 +51,7 @@ module _ (h : Head) (k : SheetKind) (head : HeadRead h) (kind : SheetKindRead h 
       registers : skippedOf (h .width) k (s .unavailable) < length (startsOf k) → startTaken (h .width) k (s .unavailable) + needed (h .width) k ≤ 16
       registers l =
           let tried : skippedOf (h .width) k (s .unavailable) < k .tries = omega (arith, starts-count) in
-          rw (getD-take (k .tries) (k .starts) _ 0 tried) (runs-within _ refl .starts _ tried)
+          rw (getD-take (k .tries) (k .starts) _ 0 tried) (runs-within _ refl .within _ tried)
 
   pub stack-end : (s : ByRules) → stackEnd (rulesPlace (h .width) k s) ≤ s .p .0 + stepMost
   stack-end s = place-cases (h .width) k (s .unavailable) (λ at. stackEnd (at (s .p .0)) ≤ s .p .0 + stepMost) (λ l. omega arith) (λ _. stack) (λ _. omega arith)
@@ -67,44 +59,69 @@ module _ (h : Head) (k : SheetKind) (head : HeadRead h) (kind : SheetKindRead h 
       stack : stackOffset k (s .p .0) + stackBytes (k .shape) ≤ s .p .0 + stepMost
       stack = omega (arith, stack-most h (k .shape) (kind .shape), modulus-most (k .shape .alignment) (kind .shape .alignment), least-lt (k .shape .alignment) 0 (s .p .0) aligned)
 
-  pub stack-room : (s : ByRules) (place : Placement) (room : ℕ) → place ≡ rulesPlace (h .width) k s → s .p .0 + stepMost < room → stackEnd place < room
-  stack-room s place room e l = rw e (omega (arith, stack-end s))
-
--- What the search answers is how many starts were skipped.
-pub searched : (h : Head) (k : SheetKind) (s : ByRules) (count skipped : ℕ) → RulesStepAsks h k s → count ≡ needed (h .width) k
-    → skipped ≡ skippedBefore (s .unavailable) count (startsOf k) → Searched h k s skipped
-searched h k s count skipped asks e f = record { asked = asks; tried = rw (← e) f }
-
 -- The place: registers, stack or nowhere, by how many starts were skipped and whether the stack is allowed.
-module _ (h : Head) (k : SheetKind) (s : ByRules) (skipped : ℕ) (found : Searched h k s skipped) where
-  count-starts : length (startsOf k) ≡ k .tries
-  count-starts = starts-count h k (found .asked .head) (found .asked .kind)
+module _ (shape : Shape) (flags : ℕ) (starts : List ℕ) (tries count skipped : ℕ) (p : Offset) where
+  pub found-registers : skipped < tries → Registers (record { 0 = getD starts skipped 0 }) count ≡ placeFound shape flags starts tries count skipped p
+  unfolding placeFound
+  found-registers l = rw (lt-ltb skipped tries l)
 
-  pub place-registers : (count : ℕ) → skipped < k .tries → count ≡ needed (h .width) k
-      → Registers (record { 0 = getD (k .starts) skipped 0 }) count ≡ rulesPlace (h .width) k s
-  unfolding rulesPlace
-  place-registers count l e = rw (← found .tried, count-starts, lt-ltb skipped (k .tries) l, getD-take (k .tries) (k .starts) skipped 0 l, e)
+  pub found-stack : (offset : Offset) (bytes : ℕ) → tries ≤ skipped → flags % 2 ≡ 1 → offset .0 ≡ leastOffset (shape .alignment) 0 (p .0)
+      → bytes ≡ stackBytes shape → Stack offset bytes ≡ placeFound shape flags starts tries count skipped p
+  unfolding placeFound
+  found-stack offset bytes l f e eb = rw (le-ltb skipped tries l, eq-eqb _ _ f, ← e, eb)
 
-  pub place-stack : (offset : Offset) (bytes : ℕ) → k .tries ≤ skipped → k .flags % 2 ≡ 1 → offset .0 ≡ leastOffset (k .shape .alignment) 0 (s .p .0)
-      → bytes ≡ stackBytes (k .shape) → Stack offset bytes ≡ rulesPlace (h .width) k s
-  unfolding rulesPlace
-  place-stack offset bytes l f e eb = rw (← found .tried, count-starts, le-ltb skipped (k .tries) l, eq-eqb _ _ f, ← e, eb)
+  pub found-nowhere : tries ≤ skipped → (flags % 2 ≡ 1 → ⊥) → Nowhere ≡ placeFound shape flags starts tries count skipped p
+  unfolding placeFound
+  found-nowhere l f = rw (le-ltb skipped tries l, ne-eqb _ _ f)
 
-  pub place-nowhere : k .tries ≤ skipped → (k .flags % 2 ≡ 1 → ⊥) → Nowhere ≡ rulesPlace (h .width) k s
-  unfolding rulesPlace
-  place-nowhere l f = rw (← found .tried, count-starts, le-ltb skipped (k .tries) l, ne-eqb _ _ f)
+-- One step, once the starts were searched: what its place asks and is, what comes after it, and both together.
+module _ (h : Head) (k : SheetKind) (s : RulesAt) (asks : RulesStepAsks h k (asRules s)) where
+  pub place-asks : PlaceAsks (k .shape) (k .starts) (k .tries) (s .p)
+  place-asks = record { aligned = asks .kind .shape .alignment; there = tries-there h k (asks .head) (asks .kind); room = asks .room }
 
--- What comes after the place: what it takes, and the runs of the starts that were skipped too where the kind closes.
-module _ (h : Head) (k : SheetKind) (s : ByRules) (skipped : ℕ) (place : Placement) (found : PlaceFound h k s skipped place) (taken : List Bool) (p : Offset)
-    (et : taken ≡ placeTaken place (s .unavailable)) (ep : p ≡ placeP place (s .p)) where
-  pub after-open : k .flags < 2 → record { unavailable = taken; p = p } ≡ rulesAfter (h .width) k s
-  unfolding rulesAfter
-  after-open l = rw (lt-leb 2 (k .flags) l, ← found .placed, et, ep)
+  module _ (count skipped passed : ℕ) (ec : count ≡ needed (h .width) k) (searched : SearchIs (s .unavailable) (k .starts) (k .tries) count skipped passed)
+      (place : Placement) (ep : place ≡ placeFound (k .shape) (k .flags) (k .starts) (k .tries) count skipped (s .p)) where
+    count-starts : length (startsOf k) ≡ k .tries
+    count-starts = starts-count h k (asks .head) (asks .kind)
 
-  pub after-closed : (count : ℕ) (closed : List Bool) → 2 ≤ k .flags → count ≡ needed (h .width) k
-      → closed ≡ markRuns taken count (take skipped (startsOf k)) → record { unavailable = closed; p = p } ≡ rulesAfter (h .width) k s
-  unfolding rulesAfter
-  after-closed count closed l e ec = rw (le-leb 2 (k .flags) l, ← found .placed, ← found .searched .tried, ← e, ec, et, ep)
+    es : skipped ≡ skippedBefore (setOf 16 (s .unavailable)) count (startsOf k)
+    es = searched .skips
+
+    tried : skipped ≤ k .tries
+    tried = omega (arith, es, count-starts, skipped-le (setOf 16 (s .unavailable)) count (startsOf k))
+
+    placed : place ≡ rulesPlace (h .width) k (asRules s)
+    unfolding rulesPlace placeFound
+    placed = ep ∙ rw (← ec, ← es, count-starts) (go (ltb skipped (k .tries)) refl _)
+      where
+        go : (found : Bool) → ltb skipped (k .tries) ≡ found → (other : Placement)
+            → cond found (Registers (record { 0 = getD (k .starts) skipped 0 }) count) other ≡ cond found (Registers (record { 0 = getD (startsOf k) skipped 0 }) count) other
+        go true e other = rw (getD-take (k .tries) (k .starts) skipped 0 (ltb-true _ _ e))
+        go false e other = refl
+
+    pub after-asks : AfterAsks place
+    after-asks = record {
+      run = run-ends h k (asks .head) (asks .kind) (asRules s) place placed;
+      stack = rw placed (omega (arith, asks .room, stack-end h k (asks .head) (asks .kind) (asRules s)));
+    }
+
+    pub step-is : (next : ByRules) → AfterIs (k .flags) passed place (asRules s) next → RulesStepIs h k (asRules s) place next
+    unfolding rulesAfter stateAfter
+    step-is next after = record {
+      placed = placed;
+      reached = after .state count (take skipped (k .starts)) (searched .passes) ∙ rw (← placed, ← ec, ← es, take-take skipped (k .tries) (k .starts) tried);
+    }
+
+-- What comes after a place: what it takes, and the registers that were passed too where the kind closes.
+module _ (flags passed : ℕ) (place : Placement) (s : RulesAt) (taken : ℕ) (p : Offset)
+    (et : setOf 16 taken ≡ placeTaken place (setOf 16 (s .unavailable))) (ep : p ≡ placeP place (s .p)) where
+  pub after-open : flags < 2 → AfterIs flags passed place (asRules s) (asRules (record { unavailable = taken; p = p }))
+  unfolding stateAfter
+  after-open l = record { state = λ count skipped marks. rw (lt-leb 2 flags l, et, ep) }
+
+  pub after-closed : 2 ≤ flags → AfterIs flags passed place (asRules s) (asRules (record { unavailable = bitOr taken passed; p = p }))
+  unfolding stateAfter
+  after-closed l = record { state = λ count skipped marks. rw (le-leb 2 flags l, ← marks taken, et, ep) }
 
 -- p grows by at most `stepMost`.
 pub p-grows : (h : Head) (k : SheetKind) (s : ByRules) → HeadRead h → SheetKindRead h k

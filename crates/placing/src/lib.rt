@@ -1,5 +1,5 @@
 // Placing by the rules: one search of a kind's starts, one argument, a list. Document 01, 'Placing by the rules'.
-use convention::ByRules;
+use convention::ARGUMENT_LIMIT;
 use convention::Head;
 use convention::Offset;
 use convention::Placement;
@@ -7,89 +7,93 @@ use convention::PlacingAnswer;
 use convention::RECORD_LENGTH;
 use convention::Reading;
 use convention::Reg;
+use convention::Shape;
 use convention::Sheet;
 use convention::SheetKind;
 use fields::shapes;
+use stepping::Decided;
+use stepping::SHORT_LIST;
 use stepping::Walk;
 ghost use mathlib.Core.Path.{_≡_};
 ghost use lib.ListN.{length, take};
 ghost use Rattle.convention.specs.Numbers.{argumentLimit};
 ghost use Rattle.convention.specs.Promised.{SheetRead};
-ghost use Rattle.convention.specs.Bytes.{written};
-ghost use Rattle.convention.specs.Lists.{records};
-ghost use Rattle.convention.specs.Rules.{skippedBefore, markRuns, startsOf, rulesPlace, rulesAfter, byRules, placeByRules, rulesMemory, rulesBegin};
-ghost use Rattle.stepping.specs.Walks.{WalkIs, PlacingIs};
-ghost use Rattle.placing.specs.RulesSteps.{RunsWithin, RunsTried, RulesStepAsks, Searched, PlaceFound, RulesStepIs, RulesListAsks, RoomAsks};
+ghost use Rattle.convention.specs.Rules.{byRules, placeByRules, rulesMemory, rulesBegin};
+ghost use Rattle.stepping.specs.Walks.{WalkMakes, DecidedIs, PlacingIs};
+ghost use Rattle.placing.specs.RulesSteps.{asRules, RunsWithin, SearchIs, PlaceAsks, placeFound, AfterAsks, AfterIs};
+ghost use Rattle.placing.specs.RulesSteps.{RulesStepAsks, RulesStepIs, RulesListAsks, DecideAsks, ShortAsks};
 
-// How many starts of a kind that needs `count` registers are tried and not taken: those before the first whose run is
-// wholly available, or all of them.
-fn skipped_before(taken: [bool; 16], kind: SheetKind, count: u8) -> u8
-    requires { ⌜ RunsWithin kind count ⌝ }
-    ensures { λ r. ⌜ r ≡ skippedBefore taken count (startsOf kind) ⌝ }
+// How far placing has come: the unavailable registers, a bit for each, and p.
+pub struct RulesAt {
+    pub unavailable: u32,
+    pub p: Offset,
+}
+
+// What a search of a kind's starts found: how many were tried and not taken, which are those before the first whose run is wholly
+// available, or all of them; and the registers of their runs, available or not, a bit for each.
+struct Searched {
+    skipped: u8,
+    passed: u32,
+}
+
+// Rule 1: tries the first `tries` starts of a kind that needs `count` registers, in order.
+fn search(taken: u32, starts: &[u8], tries: u8, count: u8) -> Searched
+    requires { ⌜ RunsWithin (now starts) tries count ⌝ }
+    ensures { λ r. ⌜ SearchIs taken (now (starts .entry)) tries count (r .skipped) (r .passed) ⌝ }
 {
+    let mut passed: u32 = 0;
     let mut i: u8 = 0;
-    while i < kind.tries {
-        let start = kind.starts[i as usize];
-        if stepping::free_run(taken, Reg(start), count) {
-            return i;
+    while i < tries {
+        let start = starts[i as usize];
+        let run = stepping::run(Reg(start), count);
+        if taken & run == 0 {
+            return Searched { skipped: i, passed };
         }
+        passed = passed | run;
         i += 1;
     }
-    i
+    Searched { skipped: i, passed }
 }
 
-// `taken` with the runs of `count` registers of a kind's first `skipped` starts taken too.
-fn mark_runs(taken: [bool; 16], kind: SheetKind, count: u8, skipped: u8) -> [bool; 16]
-    requires { ⌜ RunsTried kind count skipped ⌝ }
-    ensures { λ r. ⌜ r ≡ markRuns taken count (take skipped (startsOf kind)) ⌝ }
+// Rules 1 to 3, once the search has skipped `skipped` of `tries` starts: the place of an argument that needs `count` registers.
+fn place(
+    shape: Shape,
+    flags: u8,
+    starts: &[u8],
+    tries: u8,
+    count: u8,
+    skipped: u8,
+    p: Offset,
+) -> Placement
+    requires { ⌜ PlaceAsks shape (now starts) tries p ⌝ }
+    ensures { λ r. ⌜ r ≡ placeFound shape flags (now (starts .entry)) tries count skipped p ⌝ }
 {
-    let mut marked = taken;
-    let mut i: u8 = 0;
-    while i < skipped {
-        let start = kind.starts[i as usize];
-        let more = stepping::mark_run(marked, Reg(start), count);
-        marked = more;
-        i += 1;
-    }
-    marked
-}
-
-// Rules 1 to 3, once the search has skipped `skipped` starts: the place of one argument.
-fn place(head: Head, kind: SheetKind, s: ByRules, skipped: u8) -> Placement
-    requires { ⌜ Searched head kind s skipped ⌝ }
-    ensures { λ r. ⌜ r ≡ rulesPlace (head .width) kind s ⌝ }
-{
-    if skipped < kind.tries {
-        let start = kind.starts[skipped as usize];
-        let count = shapes::registers_needed(head.width, kind.shape);
+    if skipped < tries {
+        let start = starts[skipped as usize];
         return Placement::Registers(Reg(start), count);
     }
-    if kind.flags % 2 == 1 {
-        let offset = stepping::least_offset(kind.shape.alignment, 0, s.p);
-        return Placement::Stack(offset, shapes::stack_bytes(kind.shape));
+    if flags % 2 == 1 {
+        let offset = stepping::least_offset(shape.alignment, 0, p);
+        return Placement::Stack(offset, shapes::stack_bytes(shape));
     }
     Placement::Nowhere
 }
 
-// What the place takes, and rule 4: how far placing has come after the argument.
-fn after(head: Head, kind: SheetKind, s: ByRules, skipped: u8, place: Placement) -> ByRules
-    requires { ⌜ PlaceFound head kind s skipped place ⌝ }
-    ensures { λ r. ⌜ r ≡ rulesAfter (head .width) kind s ⌝ }
+// What the place takes, and rule 4, with the registers that the search passed: how far placing has come after the argument.
+fn after(flags: u8, passed: u32, place: Placement, s: RulesAt) -> RulesAt
+    requires { ⌜ AfterAsks place ⌝ }
+    ensures { λ r. ⌜ AfterIs flags passed place (asRules s) (asRules r) ⌝ }
 {
-    let before = s.unavailable;
-    let taken = stepping::place_taken(place, before);
-    let at = s.p;
-    let p = stepping::place_p(place, at);
-    if kind.flags < 2 {
-        return ByRules {
+    let taken = stepping::place_taken(place, s.unavailable);
+    let p = stepping::place_p(place, s.p);
+    if flags < 2 {
+        return RulesAt {
             unavailable: taken,
             p,
         };
     }
-    let count = shapes::registers_needed(head.width, kind.shape);
-    let closed = mark_runs(taken, kind, count, skipped);
-    ByRules {
-        unavailable: closed,
+    RulesAt {
+        unavailable: taken | passed,
         p,
     }
 }
@@ -97,37 +101,45 @@ fn after(head: Head, kind: SheetKind, s: ByRules, skipped: u8, place: Placement)
 // One argument placed: its place, and how far placing has come after it.
 pub struct RulesStep {
     pub place: Placement,
-    pub next: ByRules,
+    pub next: RulesAt,
 }
 
 // One step by the rules, of a kind that was read, from wherever there is room for the most that an argument takes.
-pub fn step(head: Head, kind: SheetKind, s: ByRules) -> RulesStep
-    requires { ⌜ RulesStepAsks head kind s ⌝ }
-    ensures { λ r. ⌜ RulesStepIs head kind s (r .place) (r .next) ⌝ }
+pub fn step(head: Head, kind: SheetKind, s: RulesAt) -> RulesStep
+    requires { ⌜ RulesStepAsks head kind (asRules s) ⌝ }
+    ensures { λ r. ⌜ RulesStepIs head kind (asRules s) (r .place) (asRules (r .next)) ⌝ }
 {
-    let taken = s.unavailable;
+    let starts = kind.starts;
     let count = shapes::registers_needed(head.width, kind.shape);
-    let skipped = skipped_before(taken, kind, count);
-    let found = place(head, kind, s, skipped);
-    let next = after(head, kind, s, skipped, found);
+    let searched = search(s.unavailable, &starts, kind.tries, count);
+    let found = place(
+        kind.shape,
+        kind.flags,
+        &starts,
+        kind.tries,
+        count,
+        searched.skipped,
+        s.p,
+    );
+    let next = after(kind.flags, searched.passed, found, s);
     RulesStep { place: found, next }
 }
 
 // Every register available, and p = 0.
-fn begin() -> ByRules
-    ensures { λ r. ⌜ r ≡ rulesBegin ⌝ }
+fn begin() -> RulesAt
+    ensures { λ r. ⌜ asRules r ≡ rulesBegin ⌝ }
 {
-    ByRules {
-        unavailable: [false; 16],
+    RulesAt {
+        unavailable: 0,
         p: Offset(0),
     }
 }
 
-// Goes through a list of known kinds up to its first argument without a place. The kind is taken here and not in a
-// function of its own, which would copy the whole sheet for each argument.
-fn walk(sheet: Sheet, list: &[u8]) -> Walk
-    requires { ⌜ RulesListAsks sheet (now list) ⌝ }
-    ensures { λ r. ⌜ WalkIs (byRules sheet) (now (list .entry)) (r .fault) (r .stop) (r .p) ⌝ }
+// Goes through a list of known kinds up to its first argument without a place, and makes the records of those before it in
+// `records`. The kind is taken here and not in a function of its own, which would copy the whole sheet for each argument.
+fn walk(sheet: Sheet, list: &[u8], records: &mut [u8]) -> Walk
+    requires { ⌜ RulesListAsks sheet (now list) (length (now records)) ⌝ }
+    ensures { λ r. ⌜ WalkMakes (byRules sheet) (now (list .entry)) (now (records .entry)) (r .fault) (r .stop) (r .p) (now (records .exit)) ⌝ }
 {
     let head = sheet.head;
     let mut s = begin();
@@ -141,6 +153,7 @@ fn walk(sheet: Sheet, list: &[u8]) -> Walk
             let p = s.p;
             return Walk { fault, stop: i, p };
         }
+        stepping::write_record(place, records, RECORD_LENGTH * i);
         s = tried.next;
         i += 1;
     }
@@ -152,40 +165,58 @@ fn walk(sheet: Sheet, list: &[u8]) -> Walk
     }
 }
 
-// Writes the records of a list of known kinds, one after the other, and leaves the bytes after them untouched.
-fn write_list(sheet: Sheet, list: &[u8], out: &mut [u8])
-    requires { ⌜ RoomAsks sheet (now list) (now out) ⌝ }
-    ensures { λ _. ⌜ now (out .exit) ≡ written (now (out .entry)) 0 (records (byRules sheet) (now (list .entry))) ⌝ }
+// Decides how a list is placed by a sheet that was read, with so much room for its records: the answer, in 01's order of
+// refusals, 8, 12, 9, 10; and the records, where it is success, in the first bytes of `records`, which a refusal may have
+// written to.
+pub fn decide(sheet: Sheet, list: &[u8], room: usize, records: &mut [u8]) -> Decided
+    requires { ⌜ DecideAsks sheet (now list) room (length (now records)) ⌝ }
+    ensures { λ r. ⌜ DecidedIs argumentLimit (sheet .head .kinds) (byRules sheet) (now (list .entry)) room r (now (records .exit)) ⌝ }
 {
-    let head = sheet.head;
-    let mut s = begin();
-    let mut done = 0;
-    while done < list.len() {
-        let kind = sheet.kinds[list[done] as usize];
-        let placed = step(head, kind, s);
-        let place = placed.place;
-        stepping::write_record(place, out, RECORD_LENGTH * done);
-        s = placed.next;
-        done += 1;
+    let tested = stepping::test_list(sheet.head.kinds, list, room);
+    if tested.number != 0 {
+        return stepping::refusal(tested);
     }
+    let walked = walk(sheet, list, records);
+    stepping::outcome(walked, list.len())
 }
 
-// Places a list by a sheet that was read, in 01's order of refusals: 8, 12, 9, 10. Its records are written only where every
-// argument has a place.
+// Places a list by a sheet that was read: it is decided in `records`, and what was decided is copied to `out`.
+fn place_in(sheet: Sheet, list: &[u8], records: &mut [u8], out: &mut [u8]) -> PlacingAnswer
+    requires { ⌜ DecideAsks sheet (now list) (length (now out)) (length (now records)) ⌝ }
+    ensures { λ r. ⌜ PlacingIs argumentLimit (sheet .head .kinds) (byRules sheet) (now (list .entry)) (now (out .entry)) r (now (out .exit)) ⌝ }
+{
+    let decided = decide(sheet, list, out.len(), records);
+    stepping::write(decided, records, out);
+    decided.answer
+}
+
+// Places a short list, with no more memory for its records than those of such lists take.
+fn place_short(sheet: Sheet, list: &[u8], out: &mut [u8]) -> PlacingAnswer
+    requires { ⌜ ShortAsks sheet (now list) ⌝ }
+    ensures { λ r. ⌜ PlacingIs argumentLimit (sheet .head .kinds) (byRules sheet) (now (list .entry)) (now (out .entry)) r (now (out .exit)) ⌝ }
+{
+    let mut records = [0u8; RECORD_LENGTH * SHORT_LIST];
+    place_in(sheet, list, &mut records, out)
+}
+
+// Places a list of any length.
+fn place_long(sheet: Sheet, list: &[u8], out: &mut [u8]) -> PlacingAnswer
+    requires { ⌜ SheetRead sheet ⌝ }
+    ensures { λ r. ⌜ PlacingIs argumentLimit (sheet .head .kinds) (byRules sheet) (now (list .entry)) (now (out .entry)) r (now (out .exit)) ⌝ }
+{
+    let mut records = [0u8; RECORD_LENGTH * ARGUMENT_LIMIT];
+    place_in(sheet, list, &mut records, out)
+}
+
+// Places a list by a sheet that was read.
 fn place_list(sheet: Sheet, list: &[u8], out: &mut [u8]) -> PlacingAnswer
     requires { ⌜ SheetRead sheet ⌝ }
     ensures { λ r. ⌜ PlacingIs argumentLimit (sheet .head .kinds) (byRules sheet) (now (list .entry)) (now (out .entry)) r (now (out .exit)) ⌝ }
 {
-    let tested = stepping::test_list(sheet.head.kinds, list, out.len());
-    if tested.number != 0 {
-        return stepping::refusal_answer(tested);
+    if list.len() <= SHORT_LIST {
+        return place_short(sheet, list, out);
     }
-    let walked = walk(sheet, list);
-    let answer = stepping::walk_answer(walked, list.len());
-    if walked.fault == 0 {
-        write_list(sheet, list, out);
-    }
-    answer
+    place_long(sheet, list, out)
 }
 
 // Places a list of kinds by the rules of a sheet: the records in the first bytes of `out`, or a refusal that writes

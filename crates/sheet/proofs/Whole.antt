@@ -9,7 +9,6 @@ use Rattle.convention.specs.Numbers.{orElse, reading}
 use Rattle.convention.specs.Fields.{versionOf, headOf, openingNo, leftOverNo}
 use Rattle.convention.specs.Sheets.{sheetNo, sheetOf, sheetGiven, blankSheet, readSheet}
 use Rattle.convention.proofs.Numbers.{or-zero, or-on, or-first}
-use Rattle.convention.proofs.Offsets.{width-pos}
 use Rattle.convention.proofs.Fields.{head-there, head-read, opening-head}
 use Rattle.sheet.specs.Kinds.{HeadThere, KindsAre, KindsRight}
 
@@ -18,7 +17,7 @@ pub opened : (h : Head) (s : List ℕ) (number : ℕ) → number ≡ openingNo s
 unfolding headOf
 opened h s number en ez eh =
     let right = opening-head s (sym en ∙ ez) in
-    rw eh (record { wide = width-pos _ (head-read s right .width); within = head-there s right })
+    rw eh (record { wide = head-read s right .width; within = head-there s right })
 
 -- An opening that is wrong gives the sheet's number; else the kinds and what is left over do.
 pub number-opening : (s : List ℕ) (number : ℕ) → number ≡ openingNo s → (number ≡ 0 → ⊥) → number ≡ sheetNo s

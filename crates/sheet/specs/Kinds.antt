@@ -1,12 +1,13 @@
 -- What the reader's functions promise one another.
 use Prim.Native.Nat.{ℕ, _+_, _-_, _≤_, _<_}
 use mathlib.Core.Path.{_≡_}
+use mathlib.Core.Bool.{true}
 use mathlib.Core.List.{List, _++_}
 use lib.ListN.{length, getD, take, drop, replicate}
 use Rattle.convention.specs.declared.Head.{Head}
 use Rattle.convention.specs.declared.SheetKind.{SheetKind}
 use Rattle.convention.specs.Layout.{kindsAt, triesAt}
-use Rattle.convention.specs.Fields.{versionOf, headOf}
+use Rattle.convention.specs.Fields.{isWidth, versionOf, headOf}
 use Rattle.convention.specs.Sheets.{sheetKindLength, sheetKindsNo, sheetKindsLength, sheetKindsOf, sheetKindAt, sheetNo, blankKind}
 
 -- Going through all kinds of a sheet s: their number, and where the last one ends if nothing is wrong with any.
@@ -22,7 +23,7 @@ pub record KindsRest (v : ℕ) (h : Head) (s : List ℕ) (at left : ℕ) : Type 
 
 -- A sheet that is at least as long as its head, which says how wide a register is.
 pub record HeadThere (h : Head) (s : List ℕ) : Type 0 where
-  pub wide : 0 < h .width
+  pub wide : isWidth (h .width) ≡ true
   pub within : kindsAt ≤ length s
 
 -- A kind that ends within the sheet; s begins at its first byte.

@@ -10,10 +10,12 @@ use fields::layout;
 use fields::layout::KINDS_AT;
 use fields::shapes;
 ghost use mathlib.Core.Path.{_≡_};
+ghost use mathlib.Core.Bool.{true};
 ghost use mathlib.Core.List.{_++_};
-ghost use Prim.Native.Nat.{_+_, _-_, _≤_, _<_};
+ghost use Prim.Native.Nat.{_+_, _-_, _≤_};
 ghost use lib.ListN.{length, take, drop, replicate};
 ghost use Rattle.convention.specs.Layout.{kindsAt};
+ghost use Rattle.convention.specs.Fields.{isWidth};
 ghost use Rattle.convention.specs.Sheets.{sheetKindLength, startsNo, sheetKindNo, sheetKindOf, sheetKindsOf, sheetKindAt, sheetNo, sheetOf, blankKind, blankSheet, readSheet};
 ghost use Rattle.sheet.specs.Kinds.{HeadThere, KindsAre, KindWhole, KindsRight, KindThere};
 
@@ -39,7 +41,7 @@ fn starts_no(registers: u8, needed: u8, s: &[u8], first: usize, tries: u8) -> u8
 
 // The number of one kind; s is the rest of the sheet from its first byte on.
 fn kind_no(version: u8, head: Head, s: &[u8]) -> u8
-    requires { ⌜ 0 < head .width ⌝ }
+    requires { ⌜ isWidth (head .width) ≡ true ⌝ }
     ensures { λ r. ⌜ r ≡ sheetKindNo version head (now (s .entry)) ⌝ }
 {
     let shape = shapes::shape_no(version, head, s);

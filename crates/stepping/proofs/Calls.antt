@@ -2,21 +2,25 @@
 use Prim.Native.Nat.{ℕ, zero, suc, _*_, _/_, _≤_, _<_}
 use mathlib.Core.Path.{_≡_, refl, sym, _∙_}
 use mathlib.Core.Bool.{Bool, true, false, cond}
-use mathlib.Core.List.{List}
+use mathlib.Core.List.{List, [], _++_}
 use native.Mathlib.Omega.{arith}
 use native.Mathlib.Decide.{decLe}
+use native.Mathlib.Nat.{zero-add, le-refl}
 use lib.Dec.{leb, ltb, eqb, lit<}
-use lib.ListN.{length}
+use lib.ListN.{length, take, drop}
+use lib.Seq.{take-all, take-at}
 use borrow.Author.Tests.{lt-leb, le-leb, lt-ltb, le-ltb, leb-true, leb-false, eq-eqb, ne-eqb}
 use Rattle.convention.specs.declared.Offset.{Offset}
 use Rattle.convention.specs.declared.PlacingAnswer.{PlacingAnswer}
 use Rattle.convention.specs.declared.PlacingAnswer.the-variants.{Placed, Faulty, Unknown}
-use Rattle.convention.specs.Numbers.{orElse, unless}
+use Rattle.convention.specs.Numbers.{argumentLimit, orElse, unless}
 use Rattle.convention.specs.Bytes.{written}
 use Rattle.convention.specs.Lists.{Steps, recordLength, records, unknownAt, listNo, walkAnswer, placing, placingMemory}
 use Rattle.convention.proofs.Lists.{unknown-le}
 use Rattle.convention.proofs.Numbers.{or-zero, or-first, or-keeps, unless-zero}
-use Rattle.stepping.specs.Walks.{WalkIs, ListTested, refusalAnswer, PlacingIs}
+use Rattle.stepping.specs.declared.Decided.{Decided}
+use Rattle.stepping.specs.Walks.{WalkMakes, ListTested, refusalAnswer, walkBytes, recordsWith, RecordsRoom, DecidedIs, PlacingIs}
+use Rattle.stepping.proofs.Walks.{records-long}
 
 -- The room is divided so that nothing overflows.
 pub list-no : (limit n room many narrow number : ℕ) → many ≡ unless (leb n limit) 8 → narrow ≡ unless (leb n (room / recordLength)) 12
@@ -74,58 +78,100 @@ module _ (limit m : ℕ) (ks : List ℕ) (room number : ℕ) (en : number ≡ li
           roomy = λ _. leb-true _ room (unless-zero _ 12 (lit< tt) (both .1));
         }
 
--- What a walk answers.
-pub walk-placed : (fault stop count : ℕ) (p : Offset) → fault ≡ 0 → Placed count p ≡ walkAnswer fault stop count p
-walk-placed fault stop count p z = rw z
+-- What a walk decides: success and a record for each argument, or 10 and none.
+pub outcome-placed : (fault stop count : ℕ) (p : Offset) → fault ≡ 0
+    → _≡_ {A = Decided} (record { answer = Placed count p; bytes = recordLength * count })
+    (record { answer = walkAnswer fault stop count p; bytes = walkBytes fault count })
+outcome-placed fault stop count p z = rw z
 
-pub walk-faulty : (fault stop count : ℕ) (p : Offset) → (fault ≡ 0 → ⊥) → Faulty stop fault ≡ walkAnswer fault stop count p
-walk-faulty zero stop count p nz = absurd (nz refl)
-walk-faulty (suc fault) stop count p nz = refl
+pub outcome-faulty : (fault stop count : ℕ) (p : Offset) → (fault ≡ 0 → ⊥)
+    → _≡_ {A = Decided} (record { answer = Faulty stop fault; bytes = 0 }) (record { answer = walkAnswer fault stop count p; bytes = walkBytes fault count })
+outcome-faulty zero stop count p nz = absurd (nz refl)
+outcome-faulty (suc fault) stop count p nz = refl
 
--- The call's answer for a list that was tested.
-module _ (limit m : ℕ) (M : Steps) (ks before : List ℕ) (number at : ℕ) (tests : ListTested limit m ks (length before) number at) where
-  -- A test fails: nothing is written.
-  pub list-refused : (r : PlacingAnswer) → (number ≡ 0 → ⊥) → r ≡ refusalAnswer number at → PlacingIs limit m M ks before r before
-  unfolding placing placingMemory
-  list-refused r nz er = rw er (record { answers = go _ _ refl refl; memory = untouched (eqb number 9) })
+-- What is decided of a list that was tested.
+module _ (limit m : ℕ) (M : Steps) (ks : List ℕ) (room number at : ℕ) (tests : ListTested limit m ks room number at) where
+  -- A test fails.
+  pub list-refused : (d : Decided) (made : List ℕ) → (number ≡ 0 → ⊥) → d ≡ record { answer = refusalAnswer number at; bytes = 0 }
+      → DecidedIs limit m M ks room d made
+  unfolding placing recordsWith
+  list-refused d made nz ed = rw ed (record { answers = go _ _ refl refl; makes = none (eqb number 9); there = omega arith; fits = omega arith })
     where
-      untouched : (nine : Bool) → before ≡ placingMemory (cond nine (Unknown at) (PlacingAnswer.Refused number)) M ks before
-      untouched true = refl
-      untouched false = refl
+      none : (nine : Bool) → [] ≡ recordsWith (cond nine (Unknown at) (PlacingAnswer.Refused number)) M ks
+      none true = refl
+      none false = refl
 
-      go : (first : ℕ) (known : Bool) → listNo limit (length ks) (length before) ≡ first → leb (length ks) (unknownAt m ks) ≡ known
-          → refusalAnswer number at ≡ placing limit 0 m M ks (length before)
+      go : (first : ℕ) (known : Bool) → listNo limit (length ks) room ≡ first → leb (length ks) (unknownAt m ks) ≡ known
+          → refusalAnswer number at ≡ placing limit 0 m M ks room
       go zero true e k = absurd (nz (tests .is ∙ rw (e, k)))
       go zero false e k =
           let nine : number ≡ 9 = tests .is ∙ rw (e, k) in
           rw (eq-eqb _ _ nine, e, lt-ltb _ _ (leb-false _ _ k), ← tests .position nine)
       go (suc first) known e k =
           let is : number ≡ suc first = tests .is ∙ rw e in
-          rw (ne-eqb number 9 (λ nine. not-nine limit (length ks) (length before) (e ∙ (sym is ∙ nine))), e, is)
+          rw (ne-eqb number 9 (λ nine. not-nine limit (length ks) room (e ∙ (sym is ∙ nine))), e, is)
 
-  -- None fails, and the walk decides: 10, and nothing is written; or success, and the records are written.
-  module _ (z : number ≡ 0) (fault stop : ℕ) (p : Offset) (walk : WalkIs M ks fault stop p) (r : PlacingAnswer) (er : r ≡ walkAnswer fault stop (length ks) p) where
-    walked : r ≡ placing limit 0 m M ks (length before)
-    unfolding placing
-    walked = er ∙ go fault walk
+  module _ (z : number ≡ 0) where
+    through : listNo limit (length ks) room ≡ 0
+    through = or-zero _ _ (sym (tests .is) ∙ z) .0
+
+    -- None fails: the records have their memory.
+    pub records-room : (long : ℕ) → RecordsRoom limit ks room long → recordLength * length ks ≤ long
+    records-room long h = h through
+
+    -- The walk decides.
+    pub list-walked : (before made : List ℕ) (fault stop : ℕ) (p : Offset) (d : Decided) → RecordsRoom limit ks room (length before)
+        → WalkMakes M ks before fault stop p made → d ≡ record { answer = walkAnswer fault stop (length ks) p; bytes = walkBytes fault (length ks) }
+        → DecidedIs limit m M ks room d made
+    unfolding placing recordsWith
+    list-walked before made fault stop p d h walk ed = rw ed (go fault walk)
       where
-        passed : listNo limit (length ks) (length before) ≡ 0
-        passed = or-zero _ _ (sym (tests .is) ∙ z) .0
-
         known : ltb (unknownAt m ks) (length ks) ≡ false
         known = le-ltb (unknownAt m ks) (length ks) (omega (arith, tests .listed z .known))
 
-        go : (fault : ℕ) → WalkIs M ks fault stop p → walkAnswer fault stop (length ks) p ≡ placing limit 0 m M ks (length before)
-        go zero w = rw (passed, known, ← w .first, w .final refl)
-        go (suc fault) w = rw (passed, known, ← w .first, ← w .position)
+        there : recordLength * length ks ≤ length made
+        there = rw (walk .long) (h through)
 
-    pub list-faulty : (fault ≡ 0 → ⊥) → PlacingIs limit m M ks before r before
-    unfolding placingMemory
-    list-faulty nz = record { answers = walked; memory = rw (er, ← walk-faulty fault stop (length ks) p nz) }
+        go : (fault : ℕ) → WalkMakes M ks before fault stop p made
+            → DecidedIs limit m M ks room (record { answer = walkAnswer fault stop (length ks) p; bytes = walkBytes fault (length ks) }) made
+        go zero w =
+            let long : length (records M ks) ≡ recordLength * length ks = records-long M ks in
+            record {
+              answers = rw (through, known, ← w .walk .first, w .walk .final refl);
+              makes = rw (w .made refl, ← long) (take-at (records M ks) _ (length (records M ks)) refl);
+              there = there;
+              fits = tests .roomy z;
+            }
+        go (suc fault) w = record { answers = rw (through, known, ← w .walk .first, ← w .walk .position); makes = refl; there = omega arith; fits = omega arith }
 
-    pub list-placed : (after : List ℕ) → fault ≡ 0 → after ≡ written before 0 (records M ks) → PlacingIs limit m M ks before r after
-    unfolding placingMemory
-    list-placed after none ea = record { answers = walked; memory = rw (er, ← walk-placed fault stop (length ks) p none) ea }
+-- A list that passed its tests is short enough.
+pub list-short : (limit m : ℕ) (ks : List ℕ) (room number at : ℕ) → ListTested limit m ks room number at → number ≡ 0 → length ks ≤ limit
+list-short limit m ks room number at tests z = tests .listed z .short
+
+-- Memory for the records of any list that a call takes.
+pub long-room : (ks : List ℕ) (room : ℕ) → RecordsRoom argumentLimit ks room (recordLength * argumentLimit)
+long-room ks room passed = omega (arith, leb-true (length ks) argumentLimit (unless-zero _ 8 (lit< tt) (or-zero _ _ passed .0)))
+
+-- What was decided is copied: the call's answer, and the lent memory afterwards.
+pub part-written : (part before after : List ℕ) → after ≡ take (length part) part ++ drop (length part) before → after ≡ written before 0 part
+part-written part before after e = e ∙ rw (take-all (length part) part (le-refl _), zero-add)
+
+pub list-written : (limit m : ℕ) (M : Steps) (ks before made after : List ℕ) (d : Decided) → DecidedIs limit m M ks (length before) d made
+    → after ≡ written before 0 (take (d .bytes) made) → PlacingIs limit m M ks before (d .answer) after
+unfolding placingMemory recordsWith
+list-written limit m M ks before made after d is ea = record { answers = is .answers; memory = memory }
+  where
+    copied : after ≡ written before 0 (recordsWith (d .answer) M ks)
+    copied = ea ∙ rw (is .makes)
+
+    go : (answer : PlacingAnswer) → written before 0 (recordsWith answer M ks) ≡ placingMemory answer M ks before
+    go (Placed n p) = refl
+    go (Unknown at) = refl
+    go (Faulty at fault) = refl
+    go (PlacingAnswer.Refused n) = refl
+
+    memory : after ≡ placingMemory (d .answer) M ks before
+    memory = copied ∙ go (d .answer)
 
 -- What reading gave comes first: no number, and the call's answer and memory are those of the list; or one, and nothing is written.
 module _ (limit number m : ℕ) (M : Steps) (ks before : List ℕ) where

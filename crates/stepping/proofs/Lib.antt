@@ -3,6 +3,7 @@ pub mod Ends
 pub mod Lists
 pub mod Records
 pub mod Runs
+pub mod Sets
 pub mod Walks
 pub mod Calls
 pub mod Apart

@@ -12,7 +12,7 @@ use Rattle.convention.specs.Bytes.{written}
 use Rattle.convention.specs.Lists.{Steps, placesFrom, recordOf, recordsOf, recordLength, records}
 use Rattle.convention.proofs.Bytes.{length-written}
 use Rattle.convention.proofs.Lists.{fault-turn, fault-hit, fault-end, stop-turn, stop-hit, stop-end, state-turn, state-end, records-turn, records-length, places-length}
-use Rattle.stepping.specs.Walks.{WalkIs, WalkRest, WriteRest}
+use Rattle.stepping.specs.Walks.{WalkIs, WalkRest, WriteRest, MakeRest, WalkMakes}
 
 -- One more run written after the first n bytes of R, which stand in front.
 pasted : (R before : List ℕ) (n : ℕ) (bs rest : List ℕ) → n ≤ length R → drop n R ≡ bs ++ rest
@@ -96,3 +96,27 @@ module _ (M : Steps) (ks : List ℕ) where
     write-end h =
         let all : recordLength * i ≡ length (records M ks) = omega (arith, records-long, half .within) in
         half .written ∙ rw (all, take-all (length (records M ks)) (records M ks) (le-refl _), zero-add)
+
+  -- Both at once: before the first argument, after one more that has no fault, at one that has, and after the last.
+  module _ (before : List ℕ) where
+    pub make-begin : MakeRest M ks before (M .begin) 0 before
+    make-begin = record { walk = walk-begin; writes = write-begin before }
+
+    module _ (out : List ℕ) (s : M .State) (i : ℕ) (half : MakeRest M ks before s i out) where
+      pub make-room : i < length ks → recordLength * length ks ≤ length before → recordLength * i + recordLength ≤ length out
+      make-room h room = write-room before out s i (half .writes) h room
+
+      pub make-on : (after : List ℕ) (next : M .State) (fault : ℕ) (place : Placement) → i < length ks → recordLength * length ks ≤ length before
+          → fault ≡ M .fault s (getD ks i 0) → fault ≡ 0 → place ≡ M .place s (getD ks i 0) → after ≡ written out (recordLength * i) (recordOf place)
+          → next ≡ M .after s (getD ks i 0) → MakeRest M ks before next (i + 1) after
+      make-on after next fault place h room ef ez ep ea en =
+          record { walk = walk-on s next i fault (half .walk) h ef ez en; writes = write-on before out s i (half .writes) h room after next place ep ea en }
+
+      pub make-hit : (after : List ℕ) (fault : ℕ) (p : Offset) → i < length ks → fault ≡ M .fault s (getD ks i 0) → (fault ≡ 0 → ⊥)
+          → length after ≡ length out → WalkMakes M ks before fault i p after
+      make-hit after fault p h ef nz long =
+          record { walk = walk-hit s i fault p (half .walk) h ef nz; made = λ z. absurd (nz z); long = long ∙ half .writes .long }
+
+      pub make-end : (p : Offset) → length ks ≤ i → p ≡ M .p s → WalkMakes M ks before 0 i p out
+      make-end p h ep =
+          record { walk = walk-end s i p (half .walk) h ep; made = λ _. write-end before out s i (half .writes) h; long = half .writes .long }

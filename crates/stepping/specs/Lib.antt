@@ -1,2 +1,3 @@
 pub mod Ends
+pub mod Sets
 pub mod Walks

@@ -1,5 +1,5 @@
-// What placing by the rules and placing by a table have in common: runs of registers, the least offset, the tests of a list's
-// length, room and kinds, the answer of a walk, a placement's record, and what a placement takes.
+// What placing by the rules and placing by a table have in common: sets and runs of registers, the least offset, the tests of a
+// list's length, room and kinds, what a walk decides and how that is written, a placement's record, and what a placement takes.
 use convention::ARGUMENT_LIMIT;
 use convention::Offset;
 use convention::Placement;
@@ -10,7 +10,7 @@ use convention::Reg;
 ghost use mathlib.Core.Path.{_≡_};
 ghost use Prim.Native.Nat.{_+_, _%_, _≤_, _<_, _^_};
 ghost use mathlib.Core.Bool.{true};
-ghost use lib.ListN.{length};
+ghost use lib.ListN.{length, take};
 ghost use Rattle.convention.specs.Fields.{isModulus};
 ghost use Rattle.convention.specs.Offsets.{IsLeast, leastOffset};
 ghost use Rattle.convention.specs.Bytes.{written};
@@ -18,7 +18,12 @@ ghost use Rattle.convention.specs.Lists.{recordLength, unknownAt, listNo, parts
 ghost use Rattle.convention.specs.Rules.{freeRun, markRun, placeFault, placeTaken, placeP};
 ghost use Rattle.convention.specs.Numbers.{argumentLimit};
 ghost use Rattle.stepping.specs.Ends.{runEnd, stackEnd};
-ghost use Rattle.stepping.specs.Walks.{ListTested, refusalAnswer};
+ghost use Rattle.stepping.specs.Sets.{setOf, runBits};
+ghost use Rattle.stepping.specs.Walks.{ListTested, refusalAnswer, walkBytes};
+
+// The most arguments of a list that counts as short, `shortList`. To clear the memory for the records of any list would take longer
+// than to place a short one.
+pub const SHORT_LIST: usize = 32;
 
 // What going through a list found: the fault of the first faulty step and its position; or 0, and the final p.
 pub struct Walk {
@@ -27,41 +32,33 @@ pub struct Walk {
     pub p: Offset,
 }
 
-// Whether the run of `count` registers from `first` on is wholly available.
-pub fn free_run(taken: [bool; 16], first: Reg, count: u8) -> bool
+// The set of the `count` registers from `first` on, a bit for each.
+pub fn run(first: Reg, count: u8) -> u32
     requires { ⌜ first .0 + count ≤ 16 ⌝ }
-    ensures { λ r. ⌜ r ≡ freeRun taken (first .0) count ⌝ }
+    ensures { λ r. ⌜ r ≡ runBits (first .0) count ⌝ }
 {
-    let mut at = first.0 as usize;
-    let mut left = count;
-    while 0 < left {
-        if taken[at] {
-            return false;
-        }
-        at += 1;
-        left -= 1;
-    }
-    true
+    let at = first.0 as u32;
+    ((1u32 << count as u32) - 1) << at
+}
+
+// Whether the run of `count` registers from `first` on is wholly available, where the registers of `taken` are not.
+pub fn free_run(taken: u32, first: Reg, count: u8) -> bool
+    requires { ⌜ first .0 + count ≤ 16 ⌝ }
+    ensures { λ r. ⌜ r ≡ freeRun (setOf 16 taken) (first .0) count ⌝ }
+{
+    taken & run(first, count) == 0
 }
 
 // `taken` with the run of `count` registers from `first` on taken too.
-pub fn mark_run(taken: [bool; 16], first: Reg, count: u8) -> [bool; 16]
+pub fn mark_run(taken: u32, first: Reg, count: u8) -> u32
     requires { ⌜ first .0 + count ≤ 16 ⌝ }
-    ensures { λ r. ⌜ r ≡ markRun taken (first .0) count ⌝ }
+    ensures { λ r. ⌜ setOf 16 r ≡ markRun (setOf 16 taken) (first .0) count ⌝ }
 {
-    let mut marked = taken;
-    let mut at = first.0 as usize;
-    let mut left = count;
-    while 0 < left {
-        marked[at] = true;
-        at += 1;
-        left -= 1;
-    }
-    marked
+    taken | run(first, count)
 }
 
 // The remainder of `x` by a modulus, which is a power of two: what a mask keeps.
-fn remainder(x: u32, modulus: u32) -> u32
+pub fn remainder(x: u32, modulus: u32) -> u32
     requires { ⌜ isModulus modulus ≡ true ⌝ }
     ensures { λ r. ⌜ r ≡ x % modulus ⌝ }
 {
@@ -127,25 +124,54 @@ pub fn test_list(kinds: u8, list: &[u8], room: usize) -> Tested
     Tested { number: 0, at }
 }
 
-// What a list answers that failed a test.
-pub fn refusal_answer(tested: Tested) -> PlacingAnswer
-    ensures { λ r. ⌜ r ≡ refusalAnswer (tested .number) (tested .at) ⌝ }
-{
-    if tested.number == 9 {
-        return PlacingAnswer::Unknown(tested.at);
-    }
-    PlacingAnswer::Refused(tested.number)
+// What was decided of a list: the answer, and how many bytes of records were made, 0 where it is a refusal.
+pub struct Decided {
+    pub answer: PlacingAnswer,
+    pub bytes: usize,
 }
 
-// What a walk answers: number 10, or success with the number of arguments and the final p.
-pub fn walk_answer(walked: Walk, count: usize) -> PlacingAnswer
-    ensures { λ r. ⌜ r ≡ walkAnswer (walked .fault) (walked .stop) count (walked .p) ⌝ }
+// What is decided of a list that failed a test.
+pub fn refusal(tested: Tested) -> Decided
+    ensures { λ r. ⌜ r ≡ record { answer = refusalAnswer (tested .number) (tested .at); bytes = 0 } ⌝ }
+{
+    if tested.number == 9 {
+        return Decided {
+            answer: PlacingAnswer::Unknown(tested.at),
+            bytes: 0,
+        };
+    }
+    Decided {
+        answer: PlacingAnswer::Refused(tested.number),
+        bytes: 0,
+    }
+}
+
+// What a walk decides: number 10, or success with the number of arguments and the final p, and a record for each.
+pub fn outcome(walked: Walk, count: usize) -> Decided
+    requires { ⌜ count ≤ argumentLimit ⌝ }
+    ensures { λ r. ⌜ r ≡ record { answer = walkAnswer (walked .fault) (walked .stop) count (walked .p); bytes = walkBytes (walked .fault) count } ⌝ }
 {
     if walked.fault != 0 {
-        return PlacingAnswer::Faulty(walked.stop, walked.fault);
+        return Decided {
+            answer: PlacingAnswer::Faulty(walked.stop, walked.fault),
+            bytes: 0,
+        };
     }
     let p = walked.p;
-    PlacingAnswer::Placed(count, p)
+    let bytes = RECORD_LENGTH * count;
+    Decided {
+        answer: PlacingAnswer::Placed(count, p),
+        bytes,
+    }
+}
+
+// Writes what was decided: the records that were made, into the first bytes of `out`; nothing where the answer is a refusal.
+pub fn write(decided: Decided, records: &[u8], out: &mut [u8])
+    requires { ⌜ (decided .bytes ≤ length (now records)) × (decided .bytes ≤ length (now out)) ⌝ }
+    ensures { λ _. ⌜ now (out .exit) ≡ written (now (out .entry)) 0 (take (decided .bytes) (now (records .entry))) ⌝ }
+{
+    let end = decided.bytes;
+    bytes::copy(&records[..end], out);
 }
 
 // What a placement is made of. That a first register is a byte is said here, since its number has room for an offset.
@@ -196,9 +222,9 @@ pub fn write_record(place: Placement, out: &mut [u8], at: usize)
 }
 
 // The registers that are taken once `place` was given: those of its run too.
-pub fn place_taken(place: Placement, taken: [bool; 16]) -> [bool; 16]
+pub fn place_taken(place: Placement, taken: u32) -> u32
     requires { ⌜ runEnd place ≤ 16 ⌝ }
-    ensures { λ r. ⌜ r ≡ placeTaken place taken ⌝ }
+    ensures { λ r. ⌜ setOf 16 r ≡ placeTaken place (setOf 16 taken) ⌝ }
 {
     match place {
         Placement::Registers(first, count) => mark_run(taken, first, count),

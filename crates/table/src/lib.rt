@@ -64,7 +64,7 @@ fn kinds_of(version: u8, head: Head, t: &[u8]) -> [Shape; 8]
     let mut i: u8 = 0;
     while i < head.kinds {
         let at = layout::table_kind_at(version, i);
-        kinds[i as usize] = shapes::shape_of(version, &t[at..]);
+        kinds[i as usize] = shapes::read_shape(version, t, at);
         i += 1;
     }
     kinds

@@ -1,10 +1,9 @@
--- What the public call hands down: known kinds, no fault, and room; and how its answer comes together.
+-- What the public call hands down: known kinds, and memory for the records; and how its answer comes together.
 use Prim.Native.Nat.{ℕ}
-use mathlib.Core.Path.{_≡_, sym, _∙_}
+use mathlib.Core.Path.{_≡_}
 use mathlib.Core.List.{List}
 use lib.ListN.{length}
 use Rattle.convention.specs.declared.Table.{Table}
-use Rattle.convention.specs.declared.Offset.{Offset}
 use Rattle.convention.specs.declared.PlacingAnswer.{PlacingAnswer}
 use Rattle.convention.specs.declared.Reading.{Reading}
 use Rattle.convention.specs.declared.TableAnswer.{TableAnswer}
@@ -13,18 +12,18 @@ use Rattle.convention.specs.Tables.{readTable, tableOf}
 use Rattle.convention.specs.Walked.{byTable, placeByTable, tableMemory}
 use Rattle.convention.specs.Promised.{TableRead}
 use Rattle.convention.proofs.Tables.{table-read, table-right, table-is, table-refused, table-wrong}
-use Rattle.stepping.specs.Walks.{WalkIs, ListTested, PlacingIs}
-use Rattle.stepping.proofs.Calls.{read-answer, read-memory, unread-answer, unread-memory}
-use Rattle.walking.specs.TableSteps.{WalkAsks, WriteAsks}
+use Rattle.stepping.specs.Walks.{ListTested, PlacingIs}
+use Rattle.stepping.proofs.Calls.{records-room, read-answer, read-memory, unread-answer, unread-memory}
+use Rattle.walking.specs.TableSteps.{WalkAsks, DecideAsks}
 
--- A list that passed its tests can be walked; one without a fault, too, can be written.
-module _ (table : Table) (t ks out : List ℕ) (number at : ℕ) (read : TableRead stateLimit table t)
-    (tests : ListTested argumentLimit (table .head .kinds) ks (length out) number at) (z : number ≡ 0) where
-  pub walk-asks : WalkAsks table t ks
-  walk-asks = record { read = read; listed = tests .listed z }
-
-  pub write-asks : (fault stop : ℕ) (p : Offset) → WalkIs (byTable table t) ks fault stop p → fault ≡ 0 → WriteAsks table t ks out
-  write-asks fault stop p walk none = record { walk = walk-asks; free = sym (walk .first) ∙ none; room = tests .roomy z }
+-- A list that passed its tests can be walked.
+pub walk-asks : (table : Table) (t ks records : List ℕ) (room number at : ℕ) → DecideAsks table t ks room (length records)
+    → ListTested argumentLimit (table .head .kinds) ks room number at → number ≡ 0 → WalkAsks table t ks records
+walk-asks table t ks records room number at asks tests z = record {
+  read = asks .read;
+  listed = tests .listed z;
+  room = records-room argumentLimit (table .head .kinds) (byTable table t) ks room number at tests z (length records) (asks .records);
+}
 
 -- The reader's answer: what it promises where it read the table, and the call's answer and memory on either.
 module _ (t : List ℕ) (a : TableAnswer) (ea : a ≡ readTable stateLimit t) where

@@ -10,7 +10,8 @@ use Rattle.convention.specs.declared.Table.{Table}
 use Rattle.convention.specs.declared.ByTable.{ByTable}
 use Rattle.convention.specs.declared.Transition.{Transition}
 use Rattle.convention.specs.declared.Shape.{Shape}
-use Rattle.convention.specs.Rules.{noRegisters}
+use Rattle.stepping.specs.Sets.{setOf}
+use Rattle.stepping.proofs.Sets.{set-none}
 use Rattle.convention.specs.Lists.{faultFrom}
 use Rattle.convention.specs.Tables.{tableKind, transition}
 use Rattle.convention.specs.Walked.{tableFault, byTable, walkBegin}
@@ -21,8 +22,8 @@ use Rattle.walking.specs.TableSteps.{FaultAsks, KnownAsks, Faulting, giv
 use Rattle.walking.proofs.Steps.{fault-asks, give-asks, state-inside}
 
 module _ (table : Table) (t ks : List ℕ) (asks : KnownAsks table t ks) where
-  pub faulting-begin : Faulting table t ks 0 noRegisters 0
-  faulting-begin = record { inside = asks .read .some; fault = refl }
+  pub faulting-begin : Faulting table t ks 0 (setOf 16 0) 0
+  faulting-begin = rw (set-none 16) (record { inside = asks .read .some; fault = refl })
 
   module _ (state : ℕ) (given : List Bool) (i : ℕ) (faulting : Faulting table t ks state given i) where
     module _ (h : i < length ks) where

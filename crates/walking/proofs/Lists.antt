@@ -1,93 +1,71 @@
--- One turn of each walk over a list by a table: it stands in a state of the table, and p is no further than the arguments so far can take it.
-use Prim.Native.Nat.{ℕ, _+_, _*_, _≤_, _<_}
+-- One turn of the walk over a list by a table: it stands in a state of the table, and p is no further than the arguments so far can take it.
+use Prim.Native.Nat.{ℕ, _+_, _*_, _<_, _≤_}
 use mathlib.Core.Path.{_≡_, refl, sym, _∙_}
 use mathlib.Core.List.{List}
 use native.Mathlib.Omega.{arith}
 use lib.ListN.{length, getD}
 use Rattle.convention.specs.declared.Table.{Table}
-use Rattle.convention.specs.declared.ByTable.{ByTable}
-use Rattle.convention.specs.declared.Placement.{Placement}
 use Rattle.convention.specs.declared.Transition.{Transition}
 use Rattle.convention.specs.declared.Offset.{Offset}
-use Rattle.convention.specs.Lists.{recordLength, recordOf, records}
-use Rattle.convention.specs.Bytes.{written}
+use Rattle.convention.specs.Lists.{recordLength}
 use Rattle.convention.specs.Tables.{tableKind, transition}
-use Rattle.convention.specs.Walked.{byTable, walkBegin}
-use Rattle.convention.proofs.Lists.{known, turn-free}
+use Rattle.convention.specs.Walked.{byTable, tablePlace}
+use Rattle.convention.proofs.Lists.{known}
+use Rattle.convention.proofs.Walked.{step-next}
 use Rattle.table.specs.Within.{InTable}
-use Rattle.stepping.specs.Walks.{WalkIs}
-use Rattle.stepping.proofs.Walks.{walk-begin, walk-on, walk-hit, walk-end, write-begin, write-on, write-end}
-use Rattle.walking.specs.TableSteps.{ArgumentAsks, CheckAsks, CheckIs, ArgumentIs, WalkAsks, WriteAsks, TableStanding, TableWriting}
-use Rattle.walking.proofs.Steps.{check-asks, next-state, next-reach}
+use Rattle.stepping.specs.Walks.{WalkMakes}
+use Rattle.stepping.proofs.Sets.{set-none}
+use Rattle.stepping.proofs.Walks.{make-begin, make-room, make-on, make-hit, make-end}
+use Rattle.walking.specs.declared.TableAt.{TableAt}
+use Rattle.walking.specs.TableSteps.{asTable, atBegin, ArgumentAsks, ArgumentIs, WalkAsks, TableStanding}
+use Rattle.walking.proofs.Steps.{reach, fault-asks, place-asks, state-inside}
 
-module _ (table : Table) (t ks : List ℕ) (asks : WalkAsks table t ks) where
+module _ (table : Table) (t ks before : List ℕ) (asks : WalkAsks table t ks before) where
   -- Before the first argument.
-  pub standing-begin : (s : ByTable) → s ≡ walkBegin → TableStanding table t ks s 0
-  standing-begin s e = rw e (record { walk = walk-begin (byTable table t) ks; state = asks .read .some; reach = omega arith })
+  pub standing-begin : (s : TableAt) → s ≡ atBegin → TableStanding table t ks before (asTable s) 0 before
+  standing-begin s e =
+      rw (e, set-none 16) (record { makes = make-begin (byTable table t) ks before; state = asks .read .some; reach = omega arith })
 
-  module _ (s : ByTable) (i : ℕ) (standing : TableStanding table t ks s i) (h : i < length ks) where
-    -- The next argument can be looked at.
-    next-asks : ArgumentAsks table t s (getD ks i 0)
-    next-asks = record {
-      read = asks .read;
-      inside = record { state = standing .state; kind = known (table .head .kinds) ks (asks .listed .known) i h };
-      reach = omega (arith, standing .reach, asks .listed .short);
-    }
-
-    pub next-inside : InTable table (s .state) (getD ks i 0)
-    next-inside = next-asks .inside
-
-    pub kind-there : getD ks i 0 < 8
-    kind-there = omega (arith, next-inside .kind, asks .read .head .kinds)
-
-    pub next-check : (x : Transition) → x ≡ transition table t (s .state) (getD ks i 0) → CheckAsks (table .head) (tableKind table (getD ks i 0)) x s
-    next-check = check-asks table t s (getD ks i 0) next-asks
-
-    -- After an argument without a fault.
-    on : (next : ByTable) → byTable table t .fault s (getD ks i 0) ≡ 0 → next ≡ byTable table t .after s (getD ks i 0) → TableStanding table t ks next (i + 1)
-    on next none after =
-        rw after
-        (record {
-          walk = walk-on (byTable table t) ks s _ i _ (standing .walk) h refl none refl;
-          state = next-state table t s (getD ks i 0) next-asks;
-          reach = omega (arith, next-reach table t s (getD ks i 0) next-asks none, standing .reach);
-        })
-
-    module _ (x : Transition) (ex : x ≡ transition table t (s .state) (getD ks i 0)) (fault : ℕ) (next : ByTable)
-        (check : CheckIs (table .head) (tableKind table (getD ks i 0)) x s fault next) where
-      found : fault ≡ byTable table t .fault s (getD ks i 0)
-      found = rw ex at (check .found)
-
-      pub checked-on : fault ≡ 0 → TableStanding table t ks next (i + 1)
-      checked-on z = on next (sym found ∙ z) (rw ex at (check .after z))
-
-      -- At an argument with one.
-      pub checked-hit : (p : Offset) → (fault ≡ 0 → ⊥) → WalkIs (byTable table t) ks fault i p
-      checked-hit p nz = walk-hit (byTable table t) ks s i fault p (standing .walk) h found nz
-
-  -- After the last argument.
-  pub standing-end : (s : ByTable) (i : ℕ) → TableStanding table t ks s i → length ks ≤ i → WalkIs (byTable table t) ks 0 i (s .p)
-  standing-end s i standing h = walk-end (byTable table t) ks s i (s .p) (standing .walk) h refl
-
--- Writing: before the first argument, at the next one, after it, and after the last.
-module _ (table : Table) (t ks before : List ℕ) (asks : WriteAsks table t ks before) where
-  pub writing-begin : (s : ByTable) → s ≡ walkBegin → TableWriting table t ks before s 0 before
-  writing-begin s e = rw e
-      (record { standing = standing-begin table t ks (asks .walk) walkBegin refl; writes = write-begin (byTable table t) ks before })
-
-  module _ (s : ByTable) (i : ℕ) (out : List ℕ) (writing : TableWriting table t ks before s i out) where
+  module _ (s : TableAt) (i : ℕ) (records : List ℕ) (standing : TableStanding table t ks before (asTable s) i records) where
     module _ (h : i < length ks) where
-      pub writing-asks : ArgumentAsks table t s (getD ks i 0)
-      writing-asks = next-asks table t ks (asks .walk) s i (writing .standing) h
+      -- The next argument can be placed.
+      pub next-inside : InTable table (s .state) (getD ks i 0)
+      next-inside = record { state = standing .state; kind = known (table .head .kinds) ks (asks .listed .known) i h }
 
-      pub writing-on : (place : Placement) (next : ByTable) (after : List ℕ) → ArgumentIs table t s (getD ks i 0) place next
-          → after ≡ written out (recordLength * i) (recordOf place) → TableWriting table t ks before next (i + 1) after
-      writing-on place next after argument ea =
-          let none = turn-free (byTable table t) s ks i h (writing .standing .walk .fault ∙ asks .free) in
-          record {
-            standing = on table t ks (asks .walk) s i (writing .standing) h next none (argument .after);
-            writes = write-on (byTable table t) ks before out s i (writing .writes) h (asks .room) after next place (argument .placed) ea (argument .after);
-          }
+      pub kind-there : getD ks i 0 < 8
+      kind-there = omega (arith, next-inside .kind, asks .read .head .kinds)
 
-    pub writing-end : length ks ≤ i → out ≡ written before 0 (records (byTable table t) ks)
-    writing-end h = write-end (byTable table t) ks before out s i (writing .writes) h
+      module _ (x : Transition) (ex : x ≡ transition table t (s .state) (getD ks i 0)) where
+        pub next-asks : ArgumentAsks (table .head) (tableKind table (getD ks i 0)) x (asTable s) records (recordLength * i)
+        next-asks = record {
+          judged = fault-asks table t (s .state) (getD ks i 0) (asks .read) next-inside (tableKind table (getD ks i 0)) x refl ex;
+          placed = place-asks table t (s .state) (getD ks i 0) (asks .read) next-inside (s .p .0) x (omega (arith, standing .reach, asks .listed .short)) ex;
+          room = make-room (byTable table t) ks before records (asTable s) i (standing .makes) h (asks .room);
+        }
+
+        module _ (fault : ℕ) (next : TableAt) (after : List ℕ)
+            (argument : ArgumentIs (table .head) (tableKind table (getD ks i 0)) x (asTable s) records (recordLength * i) fault (asTable next) after) where
+          found : fault ≡ byTable table t .fault (asTable s) (getD ks i 0)
+          found = rw ex at (argument .found)
+
+          -- After an argument without a fault.
+          pub standing-on : fault ≡ 0 → TableStanding table t ks before (asTable next) (i + 1) after
+          standing-on z =
+              let reached : asTable next ≡ byTable table t .after (asTable s) (getD ks i 0) = rw ex at (argument .reached z) in
+              let clean : byTable table t .fault (asTable s) (getD ks i 0) ≡ 0 = sym found ∙ z in
+              let further = reach (table .head) (tableKind table (getD ks i 0)) (transition table t (s .state) (getD ks i 0)) (asTable s) (asks .read .head)
+              (asks .read .kind (getD ks i 0) (next-inside .kind)) clean in
+              record {
+                makes = make-on (byTable table t) ks before records (asTable s) i (standing .makes) after (asTable next) fault
+                    (tablePlace (table .head) x (s .p .0)) h (asks .room) found z (rw ex refl) (argument .makes z) reached;
+                state = rw (reached, step-next) (state-inside table t (s .state) (getD ks i 0) (asks .read) next-inside _ refl);
+                reach = rw reached (omega (arith, further, standing .reach));
+              }
+
+          -- At an argument with one.
+          pub standing-hit : (p : Offset) → (fault ≡ 0 → ⊥) → length after ≡ length records → WalkMakes (byTable table t) ks before fault i p after
+          standing-hit p nz long = make-hit (byTable table t) ks before records (asTable s) i (standing .makes) after fault p h found nz long
+
+    -- After the last argument.
+    pub standing-end : length ks ≤ i → WalkMakes (byTable table t) ks before 0 i (s .p) records
+    standing-end h = make-end (byTable table t) ks before records (asTable s) i (standing .makes) (s .p) h refl

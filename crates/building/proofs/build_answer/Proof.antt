@@ -7,11 +7,8 @@ use Rattle.building.proofs.build_answer.Tie as tie
 returns : tie.Need-returns
 returns c = search (number-refused, needs)
 
-cast-t5 : tie.Need-cast-t5
-cast-t5 c = search needs
-
 returns-2 : tie.Need-returns-2
 returns-2 c = search (answer-built, needs)
 
 pub build-answer-spec : {M : Type 1} → statement M
-build-answer-spec = tie.close (tie.spec returns cast-t5 returns-2)
+build-answer-spec = tie.close (tie.spec returns returns-2)

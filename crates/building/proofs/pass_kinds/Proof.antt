@@ -1,17 +1,18 @@
--- `pass_kinds`: before kind k the states kept are those met by the kinds below k.
+-- `pass_kinds`: before kind k the states kept are those met by the kinds below k, and their transitions are made.
 use Prim.Native.Nat.{_-_}
 use Rattle.building.specs.Holding.{PassingKinds}
 use Rattle.building.proofs.Leading.{lead-asks}
-use Rattle.building.proofs.Meeting.{passing-begin, passing-on, passing-end}
+use Rattle.building.proofs.Meeting.{passing-begin, cell-there, passing-on, passing-end}
+use native.Mathlib.Omega.{arith}
 use borrow.Author.Needs.{needs}
 use Rattle.building.proofs.pass_kinds.Statement.{statement}
 use Rattle.building.proofs.pass_kinds.Tie as tie
 
 abbrev Inv-loop : tie.InvT-loop
-Inv-loop states₀ i sheet from head kinds more₀ k₀ states more k = PassingKinds sheet from i k states more
+Inv-loop i states₀ links₀ rows₀ sheet from head kinds more₀ k₀ states links rows more k = PassingKinds sheet from i k rows₀ more states links rows
 
 abbrev μ-loop : tie.MeasureT-loop
-μ-loop states₀ i sheet from head kinds more₀ k₀ states more k = kinds - k
+μ-loop i states₀ links₀ rows₀ sheet from head kinds more₀ k₀ states links rows more k = kinds - k
 
 state-at-requires : tie.Need-state-at-requires Inv-loop μ-loop
 state-at-requires c κs = search needs
@@ -28,8 +29,14 @@ mul-kind c = search needs
 element-copy-out-kind : tie.Need-element-copy-out-kind Inv-loop μ-loop
 element-copy-out-kind c = search needs
 
+cast-cell-at : tie.Need-cast-cell-at Inv-loop μ-loop
+cast-cell-at c = search needs
+
+cell-at-requires : tie.Need-cell-at-requires Inv-loop μ-loop
+cell-at-requires c κs = search needs
+
 pass-requires : tie.Need-pass-requires Inv-loop μ-loop
-pass-requires c κs = search (lead-asks, needs)
+pass-requires c κs = record { lead = lead-asks _ _ (c .before .before .before .before .before .before .before .before .before .before .before .before .before .pre .read) (omega arith); linked = search needs; there = search (cell-there, needs) }
 
 add-k : tie.Need-add-k Inv-loop μ-loop
 add-k c = search needs
@@ -42,6 +49,12 @@ loop-again c = search (passing-on, needs)
 
 same-length : tie.Need-same-length Inv-loop μ-loop
 same-length c = search needs
+
+same-length-2 : tie.Need-same-length-2 Inv-loop μ-loop
+same-length-2 c = search needs
+
+same-length-3 : tie.Need-same-length-3 Inv-loop μ-loop
+same-length-3 c = search needs
 
 returns : tie.Need-returns Inv-loop μ-loop
 returns c = search (passing-end, needs)
@@ -57,9 +70,13 @@ pass-kinds-spec =
     cast-kind
     mul-kind
     element-copy-out-kind
+    cast-cell-at
+    cell-at-requires
     pass-requires
     add-k
     loop-less
     loop-again
     same-length
+    same-length-2
+    same-length-3
     returns)

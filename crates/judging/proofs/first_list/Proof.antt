@@ -1,5 +1,5 @@
 -- `first_list`: what is found where nothing is watched is the least while no register is.
-use Rattle.judging.proofs.Best.{first-keeps, best-first}
+use Rattle.judging.proofs.Best.{first-watches, first-keeps, best-first}
 use borrow.Author.Needs.{needs}
 use Rattle.judging.proofs.first_list.Statement.{statement}
 use Rattle.judging.proofs.first_list.Tie as tie
@@ -11,7 +11,7 @@ mul-nodes : tie.Need-mul-nodes
 mul-nodes c = search needs
 
 find-list-requires : tie.Need-find-list-requires
-find-list-requires c κs = search needs
+find-list-requires c κs = (search needs, search first-watches)
 
 keep-requires : tie.Need-keep-requires
 keep-requires c κs = search (first-keeps, needs)

@@ -22,9 +22,6 @@ mul-if1 c = search needs
 returns : tie.Need-returns
 returns c = search (judge-short, needs)
 
-slice-aggregate-judge-read : tie.Need-slice-aggregate-judge-read
-slice-aggregate-judge-read c = search needs
-
 judge-read-requires : tie.Need-judge-read-requires
 judge-read-requires c κs = search (judge-asks, needs)
 
@@ -47,7 +44,6 @@ judge-spec =
     cast-if1
     mul-if1
     returns
-    slice-aggregate-judge-read
     judge-read-requires
     returns-2
     same-length

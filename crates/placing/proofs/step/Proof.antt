@@ -1,25 +1,38 @@
 -- `step`: the search, the place and the state after it, in turn.
-use Rattle.placing.proofs.Steps.{wide, runs-within, searched}
+use Rattle.placing.proofs.Steps.{runs-within, place-asks, after-asks, step-is}
 use borrow.Author.Needs.{needs}
 use Rattle.placing.proofs.step.Statement.{statement}
 use Rattle.placing.proofs.step.Tie as tie
 
 registers-needed-requires : tie.Need-registers-needed-requires
-registers-needed-requires c κs = search (wide, needs)
+registers-needed-requires c κs = search needs
 
-skipped-before-requires : tie.Need-skipped-before-requires
-skipped-before-requires c κs = search (runs-within, needs)
+slice-aggregate-search : tie.Need-slice-aggregate-search
+slice-aggregate-search c = search needs
+
+search-requires : tie.Need-search-requires
+search-requires c κs = search (runs-within, needs)
+
+slice-aggregate-place : tie.Need-slice-aggregate-place
+slice-aggregate-place c = search needs
 
 place-requires : tie.Need-place-requires
-place-requires c κs = search (searched, needs)
+place-requires c κs = search (place-asks, needs)
 
 after-requires : tie.Need-after-requires
-after-requires c κs = search (searched, needs)
+after-requires c κs = search (after-asks, needs)
 
 returns : tie.Need-returns
-returns c = search needs
+returns c = search (step-is, needs)
 
 pub step-spec : {M : Type 1} → statement M
 step-spec =
     tie.close
-    (tie.spec registers-needed-requires skipped-before-requires place-requires after-requires returns)
+    (tie.spec
+    registers-needed-requires
+    slice-aggregate-search
+    search-requires
+    slice-aggregate-place
+    place-requires
+    after-requires
+    returns)

@@ -1,6 +1,6 @@
--- `walk`: at each argument, what is left of the list answers the whole, and p leaves room for one more step.
-use Rattle.placing.proofs.Lists.{standing-begin, kind-there, next-asks, standing-on, standing-hit, standing-end}
-use Rattle.placing.specs.RulesSteps.{RulesStanding}
+-- `walk`: at each argument, what is left of the list gives the rest, and p leaves room for one more step.
+use Rattle.placing.proofs.Lists.{making-begin, kind-there, next-asks, next-room, making-hit, making-on, making-end}
+use Rattle.placing.specs.RulesSteps.{asRules, RulesMaking}
 use lib.ListN.{length}
 use Prim.Native.Nat.{_-_}
 use lib.Dec.{lit<}
@@ -9,16 +9,16 @@ use Rattle.placing.proofs.walk.Statement.{statement}
 use Rattle.placing.proofs.walk.Tie as tie
 
 abbrev Inv-loop : tie.InvT-loop
-Inv-loop list sheet head s₀ i₀ s i = RulesStanding sheet list s i
+Inv-loop list records₀ sheet head s₀ i₀ records s i = RulesMaking sheet list records₀ (asRules s) i records
 
 abbrev μ-loop : tie.MeasureT-loop
-μ-loop list sheet head s₀ i₀ s i = length list - i
+μ-loop list records₀ sheet head s₀ i₀ records s i = length list - i
 
 begin-requires : tie.Need-begin-requires Inv-loop μ-loop
 begin-requires c κs = search needs
 
 loop-holds : tie.Need-loop-holds Inv-loop μ-loop
-loop-holds c = search (standing-begin, needs)
+loop-holds c = search (making-begin, needs)
 
 shared-slice-read-kind : tie.Need-shared-slice-read-kind Inv-loop μ-loop
 shared-slice-read-kind c = search needs
@@ -38,8 +38,17 @@ step-requires c κs = search (next-asks, needs)
 place-fault-requires : tie.Need-place-fault-requires Inv-loop μ-loop
 place-fault-requires c κs = search needs
 
+same-length : tie.Need-same-length Inv-loop μ-loop
+same-length c = search needs
+
 returns : tie.Need-returns Inv-loop μ-loop
-returns c = search (standing-hit, needs)
+returns c = search (making-hit, needs)
+
+mul-write-record : tie.Need-mul-write-record Inv-loop μ-loop
+mul-write-record c = search needs
+
+write-record-requires : tie.Need-write-record-requires Inv-loop μ-loop
+write-record-requires c κs = search (next-room, needs)
 
 add-i : tie.Need-add-i Inv-loop μ-loop
 add-i c = search needs
@@ -48,10 +57,13 @@ loop-less : tie.Need-loop-less Inv-loop μ-loop
 loop-less c = search needs
 
 loop-again : tie.Need-loop-again Inv-loop μ-loop
-loop-again c = search (standing-on, needs)
+loop-again c = search (making-on, needs)
+
+same-length-2 : tie.Need-same-length-2 Inv-loop μ-loop
+same-length-2 c = search needs
 
 returns-2 : tie.Need-returns-2 Inv-loop μ-loop
-returns-2 c = search (standing-end, needs)
+returns-2 c = search (making-end, needs)
 
 pub walk-spec : {M : Type 1} → statement M
 walk-spec =
@@ -67,8 +79,12 @@ walk-spec =
     element-copy-out-kind
     step-requires
     place-fault-requires
+    same-length
     returns
+    mul-write-record
+    write-record-requires
     add-i
     loop-less
     loop-again
+    same-length-2
     returns-2)

@@ -20,10 +20,10 @@ returns : tie.Need-returns
 returns c = cc
 
 returns-2 : tie.Need-returns-2
-returns-2 c = search needs
+returns-2 c = cc
 
 returns-3 : tie.Need-returns-3
-returns-3 c = search needs
+returns-3 c = cc
 
 pub place-taken-spec : {M : Type 1} → statement M
 place-taken-spec =

@@ -26,17 +26,8 @@ loop-holds c = search needs
 table-kind-at-requires : tie.Need-table-kind-at-requires Inv-loop μ-loop
 table-kind-at-requires c κs = search needs
 
-sub-shape-of : tie.Need-sub-shape-of Inv-loop μ-loop
-sub-shape-of c = search (kind-within, needs)
-
-part-shape-of-start : tie.Need-part-shape-of-start Inv-loop μ-loop
-part-shape-of-start c = search (kind-within, needs)
-
-part-shape-of-end : tie.Need-part-shape-of-end Inv-loop μ-loop
-part-shape-of-end c = search needs
-
-shape-of-requires : tie.Need-shape-of-requires Inv-loop μ-loop
-shape-of-requires c κs = search needs
+read-shape-requires : tie.Need-read-shape-requires Inv-loop μ-loop
+read-shape-requires c κs = search (kind-within, needs)
 
 cast-kinds : tie.Need-cast-kinds Inv-loop μ-loop
 cast-kinds c = search needs
@@ -68,10 +59,7 @@ kinds-of-spec =
     blank-kinds-requires
     loop-holds
     table-kind-at-requires
-    sub-shape-of
-    part-shape-of-start
-    part-shape-of-end
-    shape-of-requires
+    read-shape-requires
     cast-kinds
     mul-kinds
     array-set-from-kinds

@@ -2,7 +2,7 @@
 use Rattle.walking.proofs.Faulting.{faulting-begin, faulting-inside, faulting-kind, faulting-asks, faulting-gives, faulting-on, faulting-hit, faulting-end}
 use Rattle.walking.specs.TableSteps.{Faulting}
 use lib.ListN.{length}
-use mathlib.Core.Path.{_≡_}
+use Rattle.stepping.specs.Sets.{setOf}
 use Prim.Native.Nat.{_-_}
 use lib.Dec.{lit<}
 use borrow.Author.Needs.{needs, fits-under, scaled-fits}
@@ -10,13 +10,13 @@ use Rattle.walking.proofs.list_fault.Statement.{statement}
 use Rattle.walking.proofs.list_fault.Tie as tie
 
 abbrev Inv-loop : tie.InvT-loop
-Inv-loop t list table head state₀ given₀ i₀ state given i = (length given ≡ 16) × Faulting table t list state given i
+Inv-loop t list table head state₀ given₀ i₀ state given i = Faulting table t list state (setOf 16 given) i
 
 abbrev μ-loop : tie.MeasureT-loop
 μ-loop t list table head state₀ given₀ i₀ state given i = length list - i
 
 loop-holds : tie.Need-loop-holds Inv-loop μ-loop
-loop-holds c = (search needs, search (faulting-begin, needs))
+loop-holds c = search (faulting-begin, needs)
 
 shared-slice-read-k : tie.Need-shared-slice-read-k Inv-loop μ-loop
 shared-slice-read-k c = search needs
@@ -49,7 +49,7 @@ loop-less : tie.Need-loop-less Inv-loop μ-loop
 loop-less c = search needs
 
 loop-again : tie.Need-loop-again Inv-loop μ-loop
-loop-again c = (search needs, search (faulting-on, needs))
+loop-again c = search (faulting-on, needs)
 
 returns-2 : tie.Need-returns-2 Inv-loop μ-loop
 returns-2 c = search (faulting-end, needs)

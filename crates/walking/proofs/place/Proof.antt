@@ -9,11 +9,11 @@ returns c = rw (eq-eqb _ _ (c .if1 .taken))
 
 least-offset-requires : tie.Need-least-offset-requires
 least-offset-requires c κs =
-    let asks = c .before .before .before .before .before .pre in
-    (asks .modulus, asks .residue (c .before .if2 .taken), omega (arith, asks .room))
+    let asks = c .before .before .before .before .pre in
+    (asks .modulus, asks .residue (c .if2 .taken), omega (arith, asks .room))
 
 returns-2 : tie.Need-returns-2
-returns-2 c = rw (ne-eqb _ _ (c .before .before .before .before .if1 .left), eq-eqb _ _ (c .before .before .if2 .taken), ← c .least-offset .ensures .0)
+returns-2 c = rw (ne-eqb _ _ (c .before .before .before .if1 .left), eq-eqb _ _ (c .before .if2 .taken), ← c .least-offset .ensures .0)
 
 returns-3 : tie.Need-returns-3
 returns-3 c = rw (ne-eqb _ _ (c .before .before .if1 .left), ne-eqb _ _ (c .if2 .left))

@@ -9,8 +9,14 @@ stack-bytes-requires c κs = search needs
 unless-requires : tie.Need-unless-requires
 unless-requires c κs = search needs
 
-rem-unless : tie.Need-rem-unless
-rem-unless c = search needs
+cast-remainder : tie.Need-cast-remainder
+cast-remainder c = search needs
+
+cast-remainder-2 : tie.Need-cast-remainder-2
+cast-remainder-2 c = search needs
+
+remainder-requires : tie.Need-remainder-requires
+remainder-requires c κs = search needs
 
 unless-requires-2 : tie.Need-unless-requires-2
 unless-requires-2 c κs = search needs
@@ -19,7 +25,7 @@ or-else-requires : tie.Need-or-else-requires
 or-else-requires c κs = search needs
 
 returns : tie.Need-returns
-returns c = rw (c .or-else .ensures, c .before .unless2 .ensures, c .before .before .before .before .unless .ensures, c .before .before .before .before .before .before .stack-bytes .ensures)
+returns c = rw (c .or-else .ensures, c .before .unless2 .ensures, c .before .before .remainder .ensures, c .before .before .before .before .before .unless .ensures, c .before .before .before .before .before .before .before .stack-bytes .ensures)
 
 pub stack-fault-spec : {M : Type 1} → statement M
 stack-fault-spec =
@@ -27,7 +33,9 @@ stack-fault-spec =
     (tie.spec
     stack-bytes-requires
     unless-requires
-    rem-unless
+    cast-remainder
+    cast-remainder-2
+    remainder-requires
     unless-requires-2
     or-else-requires
     returns)

@@ -1,18 +1,19 @@
 -- `walk`: what is left of the list answers the whole; the walk stands in a state of the table, with p within reach.
-use Rattle.walking.proofs.Lists.{standing-begin, next-inside, kind-there, next-check, checked-on, checked-hit, standing-end}
-use Rattle.walking.specs.TableSteps.{TableStanding}
-use lib.ListN.{length}
 use Prim.Native.Nat.{_-_}
+use native.Mathlib.Omega.{arith}
 use lib.Dec.{lit<}
+use lib.ListN.{length}
+use Rattle.walking.specs.TableSteps.{asTable, TableStanding}
+use Rattle.walking.proofs.Lists.{standing-begin, next-inside, kind-there, next-asks, standing-on, standing-hit, standing-end}
 use borrow.Author.Needs.{needs, fits-under, scaled-fits}
 use Rattle.walking.proofs.walk.Statement.{statement}
 use Rattle.walking.proofs.walk.Tie as tie
 
 abbrev Inv-loop : tie.InvT-loop
-Inv-loop t list table head s₀ i₀ s i = TableStanding table t list s i
+Inv-loop t list records₀ table head s₀ i₀ records s i = TableStanding table t list records₀ (asTable s) i records
 
 abbrev μ-loop : tie.MeasureT-loop
-μ-loop t list table head s₀ i₀ s i = length list - i
+μ-loop t list records₀ table head s₀ i₀ records s i = length list - i
 
 begin-requires : tie.Need-begin-requires Inv-loop μ-loop
 begin-requires c κs = search needs
@@ -35,20 +36,33 @@ mul-shape c = scaled-fits _ 8 2 (search (kind-there, needs)) (lit< tt)
 element-copy-out-shape : tie.Need-element-copy-out-shape Inv-loop μ-loop
 element-copy-out-shape c = search (kind-there, needs)
 
-check-requires : tie.Need-check-requires Inv-loop μ-loop
-check-requires c κs = search (next-check, needs)
+mul-argument : tie.Need-mul-argument Inv-loop μ-loop
+mul-argument c = search needs
+
+argument-requires : tie.Need-argument-requires Inv-loop μ-loop
+argument-requires c κs = search (next-asks, needs)
+
+same-length : tie.Need-same-length Inv-loop μ-loop
+same-length c = search needs
 
 returns : tie.Need-returns Inv-loop μ-loop
-returns c = search (checked-hit, needs)
+returns c =
+    standing-hit _ _ _ _ (c .before .before .before .before .before .before .before .before .before .before .before .before .before .before .before .before .pre) _ _ _ (c .before .before .before .before .before .before .before .before .before .before .loop .inv) (c .before .before .before .before .before .before .before .before .before .loop-test .taken) _ (c .before .before .before .before .before .before .before .transition-of .ensures) _ _ _
+    (c .before .before .before .before .argument .ensures) _ (c .if1 .taken) (search needs)
 
 add-i : tie.Need-add-i Inv-loop μ-loop
-add-i c = search needs
+add-i c = record { fits = omega (arith, c .before .before .before .before .before .before .before .before .before .before .before .before .before .before .before .before .before .pre .listed .short, c .before .before .before .before .before .before .before .before .before .before .loop-test .taken) }
 
 loop-less : tie.Need-loop-less Inv-loop μ-loop
 loop-less c = search needs
 
 loop-again : tie.Need-loop-again Inv-loop μ-loop
-loop-again c = search (checked-on, needs)
+loop-again c =
+    standing-on _ _ _ _ (c .before .before .before .before .before .before .before .before .before .before .before .before .before .before .before .before .before .pre) _ _ _ (c .before .before .before .before .before .before .before .before .before .before .before .loop .inv) (c .before .before .before .before .before .before .before .before .before .before .loop-test .taken) _ (c .before .before .before .before .before .before .before .before .transition-of .ensures) _ _ _
+    (c .before .before .before .before .before .argument .ensures) (c .before .if1 .left)
+
+same-length-2 : tie.Need-same-length-2 Inv-loop μ-loop
+same-length-2 c = search needs
 
 returns-2 : tie.Need-returns-2 Inv-loop μ-loop
 returns-2 c = search (standing-end, needs)
@@ -66,9 +80,12 @@ walk-spec =
     cast-shape
     mul-shape
     element-copy-out-shape
-    check-requires
+    mul-argument
+    argument-requires
+    same-length
     returns
     add-i
     loop-less
     loop-again
+    same-length-2
     returns-2)

@@ -1,22 +1,38 @@
--- `find_state`: at each turn no key before key i is the state's.
-use Prim.Native.Nat.{_-_}
-use Rattle.building.specs.Keys.{Passed}
-use Rattle.building.proofs.Keeping.{find-begin, find-here, find-on, find-end}
-use borrow.Author.Needs.{needs}
+-- `find_state`: at each turn no state from number `at` on has the key, and the state before it, if any, has the key's slot.
+use Prim.Native.Nat.{suc}
+use Rattle.convention.specs.Numbers.{stateLimit}
+use Rattle.building.specs.Links.{Seeking}
+use Rattle.building.proofs.Linking.{first-few, seek-few, seek-begin, seek-here, seek-on, seek-less, seek-end}
+use borrow.Author.Needs.{needs, fits-under}
 use Rattle.building.proofs.memory.find_state.Statement.{statement}
 use Rattle.building.proofs.memory.find_state.Tie as tie
 
 abbrev Inv-loop : tie.InvT-loop
-Inv-loop states count wanted i₀ i = Passed states count wanted i
+Inv-loop states links count wanted slot at₀ at = Seeking states count wanted at
 
 abbrev μ-loop : tie.MeasureT-loop
-μ-loop states count wanted i₀ i = count - i
+μ-loop states links count wanted slot at₀ at = at
 
-key-requires : tie.Need-key-requires Inv-loop μ-loop
-key-requires c κs = search needs
+slot-of-requires : tie.Need-slot-of-requires Inv-loop μ-loop
+slot-of-requires c κs = search needs
+
+add-at : tie.Need-add-at Inv-loop μ-loop
+add-at c = search needs
+
+mul-at : tie.Need-mul-at Inv-loop μ-loop
+mul-at c = search needs
+
+shared-slice-read-at : tie.Need-shared-slice-read-at Inv-loop μ-loop
+shared-slice-read-at c = search needs
+
+cast-at : tie.Need-cast-at Inv-loop μ-loop
+cast-at c = fits-under _ _ (suc stateLimit) (search (first-few, needs)) tt
 
 loop-holds : tie.Need-loop-holds Inv-loop μ-loop
-loop-holds c = search (find-begin, needs)
+loop-holds c = search (seek-begin, needs)
+
+sub-if1 : tie.Need-sub-if1 Inv-loop μ-loop
+sub-if1 c = search needs
 
 mul-if1 : tie.Need-mul-if1 Inv-loop μ-loop
 mul-if1 c = search needs
@@ -24,20 +40,32 @@ mul-if1 c = search needs
 shared-slice-read-if1 : tie.Need-shared-slice-read-if1 Inv-loop μ-loop
 shared-slice-read-if1 c = search needs
 
-returns : tie.Need-returns Inv-loop μ-loop
-returns c = search (find-here, needs)
+sub-result : tie.Need-sub-result Inv-loop μ-loop
+sub-result c = search needs
 
-add-i : tie.Need-add-i Inv-loop μ-loop
-add-i c = search needs
+returns : tie.Need-returns Inv-loop μ-loop
+returns c = search (seek-here, needs)
+
+sub-at : tie.Need-sub-at Inv-loop μ-loop
+sub-at c = search needs
+
+mul-at-2 : tie.Need-mul-at-2 Inv-loop μ-loop
+mul-at-2 c = search needs
+
+shared-slice-read-at-2 : tie.Need-shared-slice-read-at-2 Inv-loop μ-loop
+shared-slice-read-at-2 c = search needs
+
+cast-at-2 : tie.Need-cast-at-2 Inv-loop μ-loop
+cast-at-2 c = fits-under _ _ (suc stateLimit) (search (seek-few, needs)) tt
 
 loop-less : tie.Need-loop-less Inv-loop μ-loop
-loop-less c = search needs
+loop-less c = search (seek-less, needs)
 
 loop-again : tie.Need-loop-again Inv-loop μ-loop
-loop-again c = search (find-on, needs)
+loop-again c = search (seek-on, needs)
 
 returns-2 : tie.Need-returns-2 Inv-loop μ-loop
-returns-2 c = search (find-end, needs)
+returns-2 c = search (seek-end, needs)
 
 pub find-state-spec : {M : Type 1} → statement M
 find-state-spec =
@@ -45,12 +73,21 @@ find-state-spec =
     (tie.spec
     Inv-loop
     μ-loop
-    key-requires
+    slot-of-requires
+    add-at
+    mul-at
+    shared-slice-read-at
+    cast-at
     loop-holds
+    sub-if1
     mul-if1
     shared-slice-read-if1
+    sub-result
     returns
-    add-i
+    sub-at
+    mul-at-2
+    shared-slice-read-at-2
+    cast-at-2
     loop-less
     loop-again
     returns-2)

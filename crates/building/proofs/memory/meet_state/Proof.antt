@@ -1,8 +1,11 @@
--- `meet_state`: where the state is found is its number, so it is kept already, has no room, or is kept after the others, as the definition appends it.
-use Rattle.building.proofs.Keeping.{meets-known, meets-over, meets-new}
+-- `meet_state`: where the key is found is the state's number, so it is kept already, has no room, or is kept after the others, as the definition appends it.
+use Rattle.building.proofs.Keeping.{meets-known, meets-over, keep-asks, meets-new}
 use borrow.Author.Needs.{needs}
 use Rattle.building.proofs.memory.meet_state.Statement.{statement}
 use Rattle.building.proofs.memory.meet_state.Tie as tie
+
+key-requires : tie.Need-key-requires
+key-requires c κs = search needs
 
 find-state-requires : tie.Need-find-state-requires
 find-state-requires c κs = search needs
@@ -10,29 +13,32 @@ find-state-requires c κs = search needs
 same-length : tie.Need-same-length
 same-length c = search needs
 
+same-length-2 : tie.Need-same-length-2
+same-length-2 c = search needs
+
 returns : tie.Need-returns
 returns c = search (meets-known, needs)
 
-same-length-2 : tie.Need-same-length-2
-same-length-2 c = search needs
+same-length-3 : tie.Need-same-length-3
+same-length-3 c = search needs
+
+same-length-4 : tie.Need-same-length-4
+same-length-4 c = search needs
 
 returns-2 : tie.Need-returns-2
 returns-2 c = search (meets-over, needs)
 
-key-requires : tie.Need-key-requires
-key-requires c κs = search needs
+keep-state-requires : tie.Need-keep-state-requires
+keep-state-requires c κs = search (keep-asks, needs)
 
-mul-states : tie.Need-mul-states
-mul-states c = search needs
+add-t20 : tie.Need-add-t20
+add-t20 c = search needs
 
-slice-write-states : tie.Need-slice-write-states
-slice-write-states c = search needs
+same-length-5 : tie.Need-same-length-5
+same-length-5 c = search needs
 
-add-t9 : tie.Need-add-t9
-add-t9 c = search needs
-
-same-length-3 : tie.Need-same-length-3
-same-length-3 c = search needs
+same-length-6 : tie.Need-same-length-6
+same-length-6 c = search needs
 
 returns-3 : tie.Need-returns-3
 returns-3 c = search (meets-new, needs)
@@ -41,14 +47,16 @@ pub meet-state-spec : {M : Type 1} → statement M
 meet-state-spec =
     tie.close
     (tie.spec
+    key-requires
     find-state-requires
     same-length
-    returns
     same-length-2
-    returns-2
-    key-requires
-    mul-states
-    slice-write-states
-    add-t9
+    returns
     same-length-3
+    same-length-4
+    returns-2
+    keep-state-requires
+    add-t20
+    same-length-5
+    same-length-6
     returns-3)

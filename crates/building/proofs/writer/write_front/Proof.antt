@@ -5,9 +5,6 @@ use borrow.Author.Needs.{needs}
 use Rattle.building.proofs.writer.write_front.Statement.{statement}
 use Rattle.building.proofs.writer.write_front.Tie as tie
 
-cast-n : tie.Need-cast-n
-cast-n c = search needs
-
 row-at-requires : tie.Need-row-at-requires
 row-at-requires c κs = search needs
 
@@ -36,7 +33,6 @@ pub write-front-spec : {M : Type 1} → statement M
 write-front-spec =
     tie.close
     (tie.spec
-    cast-n
     row-at-requires
     sub-write-opening
     write-opening-requires

@@ -1,9 +1,13 @@
--- `registers_needed`: the quotient is at most the size, so it fits.
+-- `registers_needed`: the shift divides by the width, and the quotient is at most the size, so it fits.
 use native.Mathlib.Omega.{arith}
+use Rattle.convention.proofs.Offsets.{width-pos, width-most, width-power}
 use Rattle.convention.proofs.Shapes.{needed-most}
 use borrow.Author.Needs.{needs}
 use Rattle.fields.proofs.shapes.registers_needed.Statement.{statement}
 use Rattle.fields.proofs.shapes.registers_needed.Tie as tie
+
+sub-shift : tie.Need-sub-shift
+sub-shift c = search needs
 
 cast-bytes : tie.Need-cast-bytes
 cast-bytes c = search needs
@@ -12,17 +16,31 @@ add-bytes : tie.Need-add-bytes
 add-bytes c = search needs
 
 sub-result : tie.Need-sub-result
-sub-result c = search needs
-
-div-result : tie.Need-div-result
-div-result c = search needs
+sub-result c = omega (arith, width-pos (c .before .args .width) (c .before .pre))
 
 cast-result : tie.Need-cast-result
-cast-result c = omega (arith, needed-most (c .before .args .width) (c .before .args .shape) 255 (c .before .pre) (omega arith))
+cast-result c = search needs
+
+shr-result : tie.Need-shr-result
+shr-result c = omega (arith, width-most (c .before .args .width) (c .before .pre))
+
+cast-result-2 : tie.Need-cast-result-2
+cast-result-2 c =
+    let most = needed-most (c .before .args .width) (c .before .args .shape) 255 (width-pos (c .before .args .width) (c .before .pre)) (omega arith) in
+    rw (width-power (c .before .args .width) (c .before .pre)) (omega (arith, most))
 
 returns : tie.Need-returns
-returns c = search needs
+returns c = rw (width-power (c .before .args .width) (c .before .pre))
 
 pub registers-needed-spec : {M : Type 1} → statement M
 registers-needed-spec =
-    tie.close (tie.spec cast-bytes add-bytes sub-result div-result cast-result returns)
+    tie.close
+    (tie.spec
+    sub-shift
+    cast-bytes
+    add-bytes
+    sub-result
+    cast-result
+    shr-result
+    cast-result-2
+    returns)
