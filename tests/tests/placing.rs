@@ -4,8 +4,9 @@ use comparison::{compare, damage, refused, rounds, Numbers, MOST};
 use reference::samples::{self, Xorshift, ALIGNMENTS, S};
 use reference::{Head, Placed, Refusal, Sheet, SheetKind, Table, TableKind, Transition};
 
-/// Lists of these lengths are placed by seeded sheets and tables.
-const LENGTHS: [usize; 5] = [0, 1, 20, 400, 401];
+/// Lists of these lengths are placed by seeded sheets and tables. The library makes the records of up to 32 arguments in other
+/// memory than those of more.
+const LENGTHS: [usize; 7] = [0, 1, 20, 32, 33, 400, 401];
 
 /// A record of six bytes, as 01 lays it out.
 fn record(form: u8, at: u8, count: u8) -> [u8; 6] {
@@ -255,11 +256,11 @@ fn seeded_sheets_place_alike() {
             numbers.note(&compare::place_by_rules(&sheet.bytes(), &kinds, room));
         }
     }
-    let [none, one, some, most, more] = numbers;
+    let [none, placed @ .., more] = numbers;
     none.assert_reached(&[0], 1200);
-    one.assert_reached(&[0, 9, 10, 12], 20);
-    some.assert_reached(&[0, 9, 10, 12], 20);
-    most.assert_reached(&[0, 9, 10, 12], 20);
+    for numbers in placed {
+        numbers.assert_reached(&[0, 9, 10, 12], 20);
+    }
     more.assert_reached(&[8], 1200);
 }
 
@@ -277,11 +278,11 @@ fn seeded_tables_place_alike() {
             faults[usize::from(answer.err().map_or(0, |refusal| refusal.fault))] += 1;
         }
     }
-    let [none, one, some, most, more] = numbers;
+    let [none, placed @ .., more] = numbers;
     none.assert_reached(&[0], 2500);
-    one.assert_reached(&[0, 9, 10, 12], 20);
-    some.assert_reached(&[0, 9, 10, 12], 20);
-    most.assert_reached(&[0, 9, 10, 12], 20);
+    for numbers in placed {
+        numbers.assert_reached(&[0, 9, 10, 12], 20);
+    }
     more.assert_reached(&[8], 2500);
     assert!(faults.iter().all(|&count| count > 100), "{faults:?}");
 }
