@@ -1,5 +1,5 @@
 -- Laws of the links, on plain values: the search along them finds the only state that has a key, and one state more is linked in.
-use Prim.Native.Nat.{ℕ, suc, _+_, _-_, _≤_, _<_}
+use Prim.Native.Nat.{ℕ, _+_, _-_, _≤_, _<_}
 use mathlib.Core.Path.{_≡_, refl, sym, ap, _∙_}
 use mathlib.Core.Logic.{_⊎_, inl, inr}
 use mathlib.Core.List.{List}
@@ -23,10 +23,6 @@ nothing-linked states e = record {
       let none : getD noLinks (stateLimit + slot) 0 ≡ 0 = getD-replicate linkCount (stateLimit + slot) 0 0 (omega arith) in
       rw none (record { within = omega arith; there = λ o. absurd (omega arith); last = λ j o h. absurd (omega arith) });
 }
-
--- A link is at most the limit.
-pub first-few : (states links : List ℕ) (count slot : ℕ) → Linked states links count → slot < slots → getD links (stateLimit + slot) 0 < suc stateLimit
-first-few states links count slot linked h = omega (arith, linked .first slot h .within, linked .few)
 
 -- A key looked for along the links of its slot.
 module _ (states links : List ℕ) (count key : ℕ) (linked : Linked states links count) where
@@ -64,9 +60,6 @@ module _ (states links : List ℕ) (count key : ℕ) (linked : Linked states lin
 
     pub seek-less : getD links (at - 1) 0 < at
     seek-less = omega (arith, before .within)
-
-    pub seek-few : getD links (at - 1) 0 < suc stateLimit
-    seek-few = omega (arith, before .within, seeking .within, linked .few)
 
   -- None is left.
   pub seek-end : (at : ℕ) → Seeking states count key at → at ≤ 0 → Finds states count key count

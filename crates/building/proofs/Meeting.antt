@@ -5,6 +5,7 @@ use mathlib.Core.Path.{_≡_, refl, sym, ap, _∙_}
 use mathlib.Core.Logic.{inl, inr}
 use mathlib.Core.Bool.{true, false, true≢false}
 use mathlib.Core.List.{List, []}
+use native.Mathlib.Decide.{ℕ-discrete}
 use native.Mathlib.Nat.{zero-add, mul-le-mul-left}
 use native.Mathlib.Numerals.{add-one}
 use native.Mathlib.Omega.{arith}
@@ -28,23 +29,32 @@ use Rattle.convention.proofs.Runs.{either}
 use Rattle.convention.proofs.Numbering.{metFrom-grows, met-grows, whole, upTo-node}
 use Rattle.building.specs.declared.memory.Met.{Met}
 use Rattle.building.specs.Deciding.{rowsVersion, cellAt, DecidedIs}
-use Rattle.building.specs.Holding.{MetHolds, StateAt, Meets, LeadIs, Passes, PassKindsAsks, PassesKinds, PassingKinds, ExploreAsks, Exploring}
+use Rattle.building.specs.Holding.{MetHolds, StateAt, Meets, LeadIs, MeetsLed, Passes, PassKindsAsks, PassesKinds, PassingKinds, ExploreAsks, Exploring}
 use Rattle.building.proofs.Leading.{lead-of}
 use Rattle.building.proofs.Readable.{cell-wide, row-wide}
 use Rattle.building.proofs.Keeping.{nothing-kept}
 use Rattle.building.proofs.Writing.{blocks-begin, blocks-on, blocks-end, rows-room, rows-made}
 use Rattle.building.proofs.Staying.{nowhere-made, cell-stays}
 
--- One kind gone through at a state: it leads on, and what it leads to is met; or it leads nowhere.
+-- The state after a place met, where there is one.
+module _ (place : Placement) (next : Allocation) (states links : List ℕ) (met : Met) (fault : ℕ) (e : fault ≡ placeFault place) where
+  pub led-on : (r : Met) (number : ℕ) (after relinked : List ℕ) → fault ≡ 0 → Meets states links met next r number after relinked
+      → MeetsLed place next states links met r number after relinked
+  led-on r number after relinked z meets = record { few = meets .few; on = λ _. meets; nowhere = λ nz. absurd (nz (sym e ∙ z)) }
+
+  pub led-nowhere : (fault ≡ 0 → ⊥) → MeetsLed place next states links met met 0 states links
+  led-nowhere nz = record { few = omega arith; on = λ z. absurd (nz (e ∙ z)); nowhere = λ _ sheet l holds. holds }
+
+-- One kind gone through at a state: what it leads to is met, and its transition is made.
 module _ (h : Head) (kind : SheetKind) (a : Allocation) (place : Placement) (next : Allocation) (lead : LeadIs h kind a place next)
-    (fault : ℕ) (e : fault ≡ placeFault place) (met : Met) (states links rows : List ℕ) (at : ℕ) where
+    (met : Met) (states links rows : List ℕ) (at : ℕ) where
   -- Of kind k of a sheet.
   module _ (sheet : Sheet) (k : ℕ) (eh : h ≡ sheet .head) (ek : kind ≡ sheetKind sheet k) where
     lead-at : LeadIs (sheet .head) (sheetKind sheet k) a place next
     lead-at = lead-of sheet k h kind a place next eh ek lead
 
-    goes : eqb fault 0 ≡ allocations sheet .goes a k
-    goes = rw (← lead-at .placed, e)
+    goes : eqb (placeFault place) 0 ≡ allocations sheet .goes a k
+    goes = rw (← lead-at .placed)
 
     -- What was met with it: one entry more, or none.
     module _ (l : List (Entry (allocations sheet))) (i : ℕ) where
@@ -54,11 +64,11 @@ module _ (h : Head) (kind : SheetKind) (a : Allocation) (place : Placement) (nex
       abbrev there : Entry (allocations sheet)
       there = record { node = allocations sheet .next a k; parent = i; kind = k }
 
-      met-on : fault ≡ 0 → metFrom (allocations sheet) l a i (k + 1) ≡ meet (allocations sheet) before there
+      met-on : placeFault place ≡ 0 → metFrom (allocations sheet) l a i (k + 1) ≡ meet (allocations sheet) before there
       unfolding metFrom
       met-on z = rw (add-one, metFrom, ← goes, eq-eqb _ 0 z)
 
-      met-nowhere : (fault ≡ 0 → ⊥) → metFrom (allocations sheet) l a i (k + 1) ≡ before
+      met-nowhere : (placeFault place ≡ 0 → ⊥) → metFrom (allocations sheet) l a i (k + 1) ≡ before
       unfolding metFrom
       met-nowhere nz = rw (add-one, metFrom, ← goes, ne-eqb _ 0 nz)
 
@@ -69,23 +79,22 @@ module _ (h : Head) (kind : SheetKind) (a : Allocation) (place : Placement) (nex
       unfolding builtCell
       cell-made number en = rw (en, lead-at .placed, eh)
 
-  pub passes-on : (r : Met) (number : ℕ) (after relinked written′ : List ℕ) → fault ≡ 0 → Meets states links met next r number after relinked
+  pub passes : (r : Met) (number : ℕ) (after relinked written′ : List ℕ) → MeetsLed place next states links met r number after relinked
       → written′ ≡ written rows at (transitionBytes rowsVersion (made (h .modulus) place number))
       → Passes h kind a met states links rows at r after relinked written′
-  passes-on r number after relinked written′ z meets ew = record {
-    passes = λ sheet k eh ek l i holds. rw (met-on sheet k eh ek l i z) (meets .meets sheet _ _ (sym (lead-at sheet k eh ek .after)) holds);
-    cell = λ sheet k eh ek l i holds o.
-        let own = meets .numbers sheet _ (there sheet k eh ek l i) (sym (lead-at sheet k eh ek .after)) holds o in
-        ew ∙ cell-made sheet k eh ek l i number (rw (met-on sheet k eh ek l i z) own);
-  }
-
-  pub passes-nowhere : (written′ : List ℕ) → (fault ≡ 0 → ⊥) → written′ ≡ written rows at (transitionBytes rowsVersion (made (h .modulus) place 0))
-      → Passes h kind a met states links rows at met states links written′
-  passes-nowhere written′ nz ew = record {
-    passes = λ sheet k eh ek l i holds. rw (met-nowhere sheet k eh ek l i nz) holds;
-    cell = λ sheet k eh ek l i holds o.
-        ew ∙ ap (λ x. written rows at (transitionBytes rowsVersion x)) (nowhere-made (h .modulus) place 0 _ (λ f. nz (e ∙ f))) ∙ cell-made sheet k eh ek l i _ refl;
-  }
+  passes r number after relinked written′ led ew = elim (ℕ-discrete (placeFault place) 0) [
+    | yes z ↦ let meets = led .on z in record {
+      passes = λ sheet k eh ek l i holds. rw (met-on sheet k eh ek l i z) (meets .meets sheet _ _ (sym (lead-at sheet k eh ek .after)) holds);
+      cell = λ sheet k eh ek l i holds o.
+          let own = meets .numbers sheet _ (there sheet k eh ek l i) (sym (lead-at sheet k eh ek .after)) holds o in
+          ew ∙ cell-made sheet k eh ek l i number (rw (met-on sheet k eh ek l i z) own);
+    }
+    | no nz ↦ record {
+      passes = λ sheet k eh ek l i holds. rw (met-nowhere sheet k eh ek l i nz) (led .nowhere nz sheet _ holds);
+      cell = λ sheet k eh ek l i holds o.
+          ew ∙ ap (λ x. written rows at (transitionBytes rowsVersion x)) (nowhere-made (h .modulus) place number _ nz) ∙ cell-made sheet k eh ek l i _ refl;
+    }
+  ]
 
 -- Nothing was over before if nothing is now.
 was-whole : (sheet : Sheet) (met r : Met) (states links after relinked : List ℕ) (l l′ : List (Entry (allocations sheet))) → MetHolds sheet states links met l

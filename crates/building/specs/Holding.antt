@@ -12,7 +12,7 @@ use Rattle.convention.specs.declared.Placement.{Placement}
 use Rattle.convention.specs.Numbers.{stateLimit}
 use Rattle.convention.specs.Sheets.{sheetKind}
 use Rattle.convention.specs.Promised.{HeadRead, SheetKindRead, SheetRead}
-use Rattle.convention.specs.Rules.{rulesPlace, rulesAfter}
+use Rattle.convention.specs.Rules.{placeFault, rulesPlace, rulesAfter}
 use Rattle.convention.specs.Explored.{Entry, entry, number as numberOf, meet, metFrom, met as metBefore}
 use Rattle.convention.specs.Bytes.{written}
 use Rattle.convention.specs.Layout.{transitionLength}
@@ -56,6 +56,13 @@ pub record LeadAsks (h : Head) (k : SheetKind) : Type 0 where
 pub record LeadIs (h : Head) (k : SheetKind) (a : Allocation) (place : Placement) (next : Allocation) : Type 0 where
   pub placed : place ≡ rulesPlace (h .width) k (fromAllocation a)
   pub after : next ≡ allocation (h .modulus) (rulesAfter (h .width) k (fromAllocation a))
+
+-- The state after it met, where there is a place; where there is none, whatever entries were kept are kept, and the number says nothing.
+pub record MeetsLed (place : Placement) (next : Allocation) (states links : List ℕ) (met r : Met) (number : ℕ) (after relinked : List ℕ) : Type 0 where
+  pub few : number ≤ stateLimit
+  pub on : placeFault place ≡ 0 → Meets states links met next r number after relinked
+  pub nowhere : (placeFault place ≡ 0 → ⊥) → (sheet : Sheet) (l : List (Entry (allocations sheet))) → MetHolds sheet states links met l
+      → MetHolds sheet after relinked r l
 
 -- One kind gone through at a state, and the transition's place among the rows.
 pub record PassAsks (h : Head) (k : SheetKind) (met : Met) (states links rows : List ℕ) (at : ℕ) : Type 0 where

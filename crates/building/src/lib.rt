@@ -27,9 +27,11 @@ ghost use Rattle.convention.specs.Layout.{tableLength};
 ghost use Rattle.convention.specs.Built.{allocation as allocationOf, builtVersion, builtTable, builtOrRefused, build as builds, buildMemory, firstAllocation};
 ghost use Rattle.placing.specs.RulesSteps.{asRules};
 ghost use Rattle.building.specs.Deciding.{DecideAsks, DecidedIs, WriteAsks, BuildingIs};
-ghost use Rattle.building.specs.Holding.{LeadAsks, LeadIs, PassAsks, Passes, PassKindsAsks, PassesKinds, ExploreAsks};
+ghost use Rattle.building.specs.Links.{Linked};
+ghost use Rattle.building.specs.Holding.{LeadAsks, LeadIs, MeetsLed, PassAsks, Passes, PassKindsAsks, PassesKinds, ExploreAsks};
 use crate::memory::LINK_COUNT;
 use crate::memory::Met;
+use crate::memory::Numbered;
 
 // How many bytes a transition takes among the rows, and how many kinds a row has at most.
 const CELL_BYTES: usize = 4;
@@ -85,6 +87,23 @@ fn lead(head: Head, kind: SheetKind, a: Allocation) -> Led
     Led { place, next }
 }
 
+// The state after a place met, with those before it. Where there is no place nothing is met, and the number says nothing.
+fn meet_led(
+    place: Placement,
+    next: Allocation,
+    met: Met,
+    states: &mut [u32],
+    links: &mut [u16],
+) -> Numbered
+    requires { ⌜ Linked (now states) (now links) (met .count) ⌝ }
+    ensures { λ r. ⌜ MeetsLed place next (now (states .entry)) (now (links .entry)) met (r .met) (r .number) (now (states .exit)) (now (links .exit)) ⌝ }
+{
+    if stepping::place_fault(place) == 0 {
+        return memory::meet_state(states, links, met, next);
+    }
+    Numbered { met, number: 0 }
+}
+
 // A kind gone through at a state: what it leads to is met, where it leads on, and its transition stands among the rows, from
 // byte `at` on.
 fn pass(
@@ -102,20 +121,16 @@ fn pass(
 {
     let led = lead(head, kind, a);
     let place = led.place;
-    if stepping::place_fault(place) == 0 {
-        let next = led.next;
-        let more = memory::meet_state(states, links, met, next);
-        writer::write_made(head.modulus, place, more.number, rows, at);
-        return more.met;
-    }
-    writer::write_made(head.modulus, place, 0, rows, at);
-    met
+    let next = led.next;
+    let more = meet_led(place, next, met, states, links);
+    writer::write_made(head.modulus, place, more.number, rows, at);
+    more.met
 }
 
 // State i gone through, in the order of the kinds, and its row made.
 fn pass_kinds(
     sheet: Sheet,
-    i: usize,
+    i: u16,
     met: Met,
     states: &mut [u32],
     links: &mut [u16],
@@ -131,7 +146,7 @@ fn pass_kinds(
     let mut k: u8 = 0;
     while k < kinds {
         let kind = sheet.kinds[k as usize];
-        let at = writer::cell_at(head, i as u16, k);
+        let at = writer::cell_at(head, i, k);
         more = pass(head, kind, from, more, states, links, rows, at);
         k += 1;
     }
@@ -160,7 +175,7 @@ fn explore(sheet: Sheet, states: &mut [u32], links: &mut [u16], rows: &mut [u8])
     };
     let first = memory::meet_state(states, links, none, first_state());
     let mut met = first.met;
-    let mut i: usize = 0;
+    let mut i: u16 = 0;
     while i < met.count {
         if met.over {
             return met;
@@ -187,7 +202,7 @@ pub fn decide(sheet: Sheet, rows: &mut [u8]) -> DecidedTable
     let mut links = [0u16; LINK_COUNT];
     let met = explore(sheet, &mut states, &mut links, rows);
     DecidedTable {
-        states: met.count as u16,
+        states: met.count,
         over: met.over,
     }
 }

@@ -24,14 +24,14 @@ pub(crate) const LINK_COUNT: usize = STATE_LIMIT + SLOTS;
 
 // How many states were met. Once it is `over`, more were met than have room.
 pub(crate) struct Met {
-    pub(crate) count: usize,
+    pub(crate) count: u16,
     pub(crate) over: bool,
 }
 
 // A state met: how many were met with it, and its number, which says nothing once they are `over`.
 pub(crate) struct Numbered {
     pub(crate) met: Met,
-    pub(crate) number: usize,
+    pub(crate) number: u16,
 }
 
 // The number of a set of registers, from the last register down.
@@ -83,11 +83,11 @@ fn state_of(key: u32) -> Allocation
 }
 
 // State i of those met.
-pub(crate) fn state_at(states: &[u32], i: usize) -> Allocation
+pub(crate) fn state_at(states: &[u32], i: u16) -> Allocation
     requires { ⌜ i < length (now states) ⌝ }
     ensures { λ r. ⌜ StateAt (now (states .entry)) i r ⌝ }
 {
-    state_of(states[i])
+    state_of(states[i as usize])
 }
 
 // The slot of a key. Nothing but speed rests on which it is.
@@ -99,31 +99,32 @@ fn slot_of(key: u32) -> usize
 }
 
 // The number of the state that has a key, or the count where none does.
-fn find_state(states: &[u32], links: &[u16], count: usize, wanted: u32) -> usize
+fn find_state(states: &[u32], links: &[u16], count: u16, wanted: u32) -> u16
     requires { ⌜ Linked (now states) (now links) count ⌝ }
     ensures { λ r. ⌜ Finds (now (states .entry)) count wanted r ⌝ }
 {
     let slot = slot_of(wanted);
-    let mut at = links[STATE_LIMIT + slot] as usize;
+    let mut at = links[STATE_LIMIT + slot];
     while 0 < at {
-        if states[at - 1] == wanted {
-            return at - 1;
+        let number = at - 1;
+        if states[number as usize] == wanted {
+            return number;
         }
-        at = links[at - 1] as usize;
+        at = links[number as usize];
     }
     count
 }
 
 // Keeps a key that no state has after the others, as the last of its slot.
-fn keep_state(states: &mut [u32], links: &mut [u16], count: usize, new: u32)
+fn keep_state(states: &mut [u32], links: &mut [u16], count: u16, new: u32)
     requires { ⌜ KeepAsks (now states) (now links) count new ⌝ }
     ensures { λ _. ⌜ Kept (now (states .entry)) count new (now (states .exit)) (now (links .exit)) ⌝ }
 {
     let slot = slot_of(new);
     let earlier = links[STATE_LIMIT + slot];
-    states[count] = new;
-    links[count] = earlier;
-    links[STATE_LIMIT + slot] = (count + 1) as u16;
+    states[count as usize] = new;
+    links[count as usize] = earlier;
+    links[STATE_LIMIT + slot] = count + 1;
 }
 
 // A state met: kept after the others if it is new and there is room for it.
@@ -137,7 +138,7 @@ pub(crate) fn meet_state(states: &mut [u32], links: &mut [u16], met: Met, a: All
     if number < count {
         return Numbered { met, number };
     }
-    if count == STATE_LIMIT {
+    if count as usize == STATE_LIMIT {
         let full = Met { count, over: true };
         return Numbered { met: full, number };
     }

@@ -115,11 +115,11 @@ pub(crate) fn cell_at(head: Head, state: u16, k: u8) -> usize
 }
 
 // Writes among the rows, from byte `at` on, the transition that is made of a place and the next state's number.
-pub(crate) fn write_made(modulus: u8, place: Placement, next: usize, rows: &mut [u8], at: usize)
+pub(crate) fn write_made(modulus: u8, place: Placement, next: u16, rows: &mut [u8], at: usize)
     requires { ⌜ MadeAsks modulus next (now rows) at ⌝ }
     ensures { λ _. ⌜ now (rows .exit) ≡ written (now (rows .entry)) at (transitionBytes rowsVersion (made modulus place next)) ⌝ }
 {
-    let x = make_transition(modulus, place, next as u16);
+    let x = make_transition(modulus, place, next);
     write_transition(ROWS_VERSION, x, rows, at);
 }
 

@@ -5,6 +5,7 @@ use mathlib.Core.Bool.{Bool, true, false, cond}
 use mathlib.Core.List.{List, [], _∷_}
 use native.Mathlib.Omega.{arith}
 use lib.ListN.{length, getD}
+use Rattle.convention.specs.declared.Head.{Head}
 use Rattle.convention.specs.declared.Offset.{Offset}
 use Rattle.convention.specs.declared.SheetKind.{SheetKind}
 use Rattle.convention.specs.declared.Placement.{Placement}
@@ -15,7 +16,7 @@ use Rattle.convention.specs.declared.PlacingAnswer.the-variants.{Placed}
 use Rattle.convention.specs.Numbers.{argumentLimit}
 use Rattle.convention.specs.Sheets.{isClosing, sheetNo, sheetOf, sheetKind}
 use Rattle.convention.specs.Lists.{faultFrom, stateFrom, placesFrom, KindsBelow}
-use Rattle.convention.specs.Rules.{markRun, markRuns, startsOf, needed, rulesPlace, rulesAfter, byRules, placeByRules}
+use Rattle.convention.specs.Rules.{markRun, markRuns, startsOf, needed, startTaken, placeTaken, rulesPlace, rulesAfter, byRules, placeByRules}
 use Rattle.convention.specs.WellPlaced.{Share}
 use Rattle.convention.specs.Promised.{SheetRead}
 use Rattle.convention.proofs.Bytes.{four-read}
@@ -27,7 +28,8 @@ use Rattle.stepping.proofs.Runs.{length-mark}
 use Rattle.stepping.proofs.Accepted.{Accepted, accepted}
 use Rattle.stepping.proofs.Apart.{FreeIn, FromP, StepGives, mark-stays, place-length, apart, p-most}
 use Rattle.convention.specs.Shapes.{pMost}
-use Rattle.placing.proofs.Starts.{skipped-free}
+use Rattle.placing.specs.RulesSteps.{MayBegin}
+use Rattle.placing.proofs.Starts.{skipped-free, skipped-stay}
 use Rattle.placing.proofs.Steps.{aligned, run-ends, stack-end, p-grows}
 
 -- The places of a list by the rules of a sheet.
@@ -72,6 +74,22 @@ pub closed-stays : (closing : Bool) (taken : List Bool) (count : ℕ) (starts : 
     → getD (cond closing (markRuns taken count starts) taken) r false ≡ true
 closed-stays true taken count starts r e = marks-stay taken count starts r e
 closed-stays false taken count starts r e = e
+
+-- A register that is unavailable stays so over a step.
+step-stays : (w : ℕ) (k : SheetKind) (s : ByRules) (r : ℕ) → getD (s .unavailable) r false ≡ true → getD (rulesAfter w k s .unavailable) r false ≡ true
+unfolding rulesAfter
+step-stays w k s r e =
+    closed-stays (isClosing k) (placeTaken (rulesPlace w k s) (s .unavailable)) _ _ r
+    (place-cases w k (s .unavailable) (λ at. getD (placeTaken (at (s .p .0)) (s .unavailable)) r false ≡ true)
+    (λ _. mark-stays (s .unavailable) (startTaken w k (s .unavailable)) (needed w k) r e) (λ _. e) (λ _. e))
+
+-- So a kind's search may begin where it might before a step, of whatever kind.
+pub begins-still : (h : Head) (k stepped : SheetKind) (s next : ByRules) → next ≡ rulesAfter (h .width) stepped s
+    → (from : ℕ) → MayBegin h k s from → MayBegin h k next from
+begins-still h k stepped s next e from cursor =
+    let later = rulesAfter (h .width) stepped s .unavailable in
+    let grows = skipped-stay (s .unavailable) later (step-stays (h .width) stepped s) (needed (h .width) k) (startsOf k) in
+    rw e (record { low = omega (arith, cursor .low, grows); closes = cursor .closes })
 
 module _ (sheet : Sheet) (read : SheetRead sheet) where
   -- A step gives out what is free, and marks it.

@@ -1,7 +1,8 @@
 -- Laws of going through a kind's starts one by one, as a loop takes them: it has come to start i.
-use Prim.Native.Nat.{ℕ, suc, _+_, _≤_, _<_}
+use Prim.Native.Nat.{ℕ, zero, suc, _+_, _≤_, _<_}
 use mathlib.Core.Path.{_≡_, refl, sym, _∙_}
-use mathlib.Core.Bool.{Bool, true, false}
+use mathlib.Core.Logic.{inl, inr}
+use mathlib.Core.Bool.{Bool, true, false, false≢true}
 use mathlib.Core.List.{List, [], _∷_, _++_}
 use native.Mathlib.Nat.{zero-add}
 use native.Mathlib.Numerals.{add-one}
@@ -12,9 +13,10 @@ use lib.ListN.{length, getD, take, drop, drop-of-length-le}
 use lib.Seq.{length-take-le, take-suc, drop-cons, getD-take}
 use borrow.Author.Tests.{eq-eqb, ne-eqb}
 use Rattle.convention.specs.Rules.{freeRun, markRun, markRuns, skippedBefore}
+use Rattle.convention.proofs.Runs.{either, free-each, free-some}
 use Rattle.stepping.specs.Sets.{setOf, runBits}
 use Rattle.stepping.proofs.Sets.{free-set, mark-set, or-grouped}
-use Rattle.placing.specs.RulesSteps.{RunsWithin, SearchIs, Searching}
+use Rattle.placing.specs.RulesSteps.{RunsWithin, SearchAsks, SearchIs, Searching}
 
 -- The runs of one more start.
 marks-snoc : (taken : List Bool) (count : ℕ) (starts : List ℕ) (s : ℕ) → markRuns taken count (starts ++ s ∷ []) ≡ markRun (markRuns taken count starts) s count
@@ -37,9 +39,9 @@ module _ (starts : List ℕ) (tries count i : ℕ) (runs : RunsWithin starts tri
   pub start-within : i < tries → getD starts i 0 + count ≤ 16
   start-within h = runs .within i h
 
-  module _ (taken passed : ℕ) (searching : Searching taken starts tries count i passed) where
+  module _ (taken from passed : ℕ) (searching : Searching taken starts from tries count i passed) where
     -- All were tried.
-    pub search-end : tries ≤ i → SearchIs taken starts tries count i passed
+    pub search-end : tries ≤ i → SearchIs taken starts from tries count i passed
     unfolding skippedBefore
     search-end h = record { skips = omega (arith, rw (rest-end starts tries i (runs .there) h) at (searching .skips)); passes = searching .passes }
 
@@ -48,28 +50,23 @@ module _ (starts : List ℕ) (tries count i : ℕ) (runs : RunsWithin starts tri
       tested = rw er (sym (free-set 16 taken (getD starts i 0) count (runs .within i h)))
 
       -- The run of the start there is free.
-      pub search-hit : bitAnd taken run ≡ 0 → SearchIs taken starts tries count i passed
+      pub search-hit : bitAnd taken run ≡ 0 → SearchIs taken starts from tries count i passed
       unfolding skippedBefore
       search-hit z =
           let free : freeRun (setOf 16 taken) (getD starts i 0) count ≡ true = tested ∙ eq-eqb _ _ z in
           record { skips = omega (arith, rw (rest-of starts tries i (runs .there) h, skippedBefore, free) at (searching .skips)); passes = searching .passes }
 
       -- It is not, and is passed.
-      pub search-on : (bitAnd taken run ≡ 0 → ⊥) → Searching taken starts tries count (i + 1) (bitOr passed run)
+      pub search-on : (bitAnd taken run ≡ 0 → ⊥) → Searching taken starts from tries count (i + 1) (bitOr passed run)
       unfolding skippedBefore
       search-on nz =
           let other : freeRun (setOf 16 taken) (getD starts i 0) count ≡ false = tested ∙ ne-eqb _ _ nz in
           record {
             within = omega arith;
             skips = omega (arith, rw (rest-of starts tries i (runs .there) h, skippedBefore, other) at (searching .skips));
-            passes = λ b. rw (add-one, take-suc starts i 0 (omega (arith, runs .there)), marks-snoc, searching .passes b, er)
+            passes = λ z b. rw (add-one, take-suc starts i 0 (omega (arith, runs .there)), marks-snoc, searching .passes z b, er)
                 (mark-set 16 (bitOr b passed) (getD starts i 0) count (runs .within i h) ∙ or-grouped 16 b passed _);
           }
-
--- Before the first start none is passed.
-pub search-begin : (taken : ℕ) (starts : List ℕ) (tries count : ℕ) → Searching taken starts tries count 0 0
-unfolding markRuns
-search-begin taken starts tries count = record { within = omega arith; skips = zero-add _; passes = λ b. rw (or-zero-r b) }
 
 -- No more are skipped than were tried, and the one after them is free.
 pub skipped-le : (taken : List Bool) (count : ℕ) (starts : List ℕ) → skippedBefore taken count starts ≤ length starts
@@ -96,3 +93,43 @@ skipped-free taken count (s ∷ starts) h = go (freeRun taken s count) refl h (s
         → freeRun taken (getD (s ∷ starts) (at free) 0) count ≡ true
     go true e l later = e
     go false e l later = later (omega arith)
+
+-- After starts that are skipped, as many fewer are.
+skipped-after : (taken : List Bool) (count : ℕ) (starts : List ℕ) (n : ℕ) → n ≤ skippedBefore taken count starts
+    → n + skippedBefore taken count (drop n starts) ≡ skippedBefore taken count starts
+unfolding skippedBefore
+skipped-after taken count starts zero h = zero-add _
+skipped-after taken count [] (suc n) h = absurd (omega arith)
+skipped-after taken count (s ∷ starts) (suc n) h = elim (either (freeRun taken s count)) [
+  | inl t ↦ absurd (omega (arith, rw (t, skippedBefore) at h))
+  | inr t ↦
+      let later : n ≤ skippedBefore taken count starts = omega (arith, rw (t, skippedBefore) at h) in
+      rw (t, skippedBefore) (omega (arith, skipped-after taken count starts n later))
+]
+
+-- Before the first start that is tried none is passed.
+pub search-begin : (taken : ℕ) (starts : List ℕ) (from tries count : ℕ) → SearchAsks taken starts from tries count → Searching taken starts from tries count from 0
+unfolding markRuns
+search-begin taken starts from tries count asks = record {
+  within = omega (arith, asks .skips, skipped-le (setOf 16 taken) count (take tries starts), length-take-le tries starts (asks .runs .there));
+  skips = skipped-after (setOf 16 taken) count (take tries starts) from (asks .skips);
+  passes = λ z b. rw (z, or-zero-r b);
+}
+
+-- Where what is taken stays so, no fewer are skipped.
+module _ (taken later : List Bool) (stays : (r : ℕ) → getD taken r false ≡ true → getD later r false ≡ true) (count : ℕ) where
+  run-stays : (first : ℕ) → freeRun taken first count ≡ false → freeRun later first count ≡ false
+  run-stays first e = elim (either (freeRun later first count)) [
+    | inl t ↦
+        let (r, low, high, hit) = free-some taken first count e in
+        absurd (false≢true (sym (free-each later first count t r low high) ∙ stays r hit))
+    | inr t ↦ t
+  ]
+
+  pub skipped-stay : (starts : List ℕ) → skippedBefore taken count starts ≤ skippedBefore later count starts
+  unfolding skippedBefore
+  skipped-stay [] = omega arith
+  skipped-stay (s ∷ starts) = elim (either (freeRun taken s count)) [
+    | inl t ↦ rw (t, skippedBefore) (omega arith)
+    | inr t ↦ rw (t, run-stays s t, skippedBefore) (omega (arith, skipped-stay starts))
+  ]

@@ -26,7 +26,7 @@ use Rattle.convention.proofs.Offsets.{least-lt, modulus-pos, modulus-most}
 use Rattle.stepping.specs.Ends.{runEnd, stackEnd}
 use Rattle.stepping.specs.Sets.{setOf}
 use Rattle.placing.specs.declared.RulesAt.{RulesAt}
-use Rattle.placing.specs.RulesSteps.{asRules, RunsWithin, SearchIs, PlaceAsks, placeFound, AfterAsks, AfterIs, stateAfter, RulesStepAsks, RulesStepIs}
+use Rattle.placing.specs.RulesSteps.{asRules, RunsWithin, SearchAsks, SearchIs, PlaceAsks, placeFound, AfterAsks, AfterIs, stateAfter, CursorIs, RulesStepAsks, MayBegin, StepFromIs}
 use Rattle.placing.proofs.Starts.{skipped-le}
 
 module _ (h : Head) (k : SheetKind) (head : HeadRead h) (kind : SheetKindRead h k) where
@@ -37,7 +37,7 @@ module _ (h : Head) (k : SheetKind) (head : HeadRead h) (kind : SheetKindRead h 
   starts-count : length (startsOf k) ≡ k .tries
   starts-count = length-take-le (k .tries) (k .starts) tries-there
 
-  pub runs-within : (count : ℕ) → count ≡ needed (h .width) k → RunsWithin (k .starts) (k .tries) count
+  runs-within : (count : ℕ) → count ≡ needed (h .width) k → RunsWithin (k .starts) (k .tries) count
   runs-within count e = record { there = tries-there; within = λ i l. rw e (omega (arith, kind .starts i l, head .registers)) }
 
   -- An alignment is not 0.
@@ -79,7 +79,10 @@ module _ (h : Head) (k : SheetKind) (s : RulesAt) (asks : RulesStepAsks h k (asR
   pub place-asks : PlaceAsks (k .shape) (k .starts) (k .tries) (s .p)
   place-asks = record { aligned = asks .kind .shape .alignment; there = tries-there h k (asks .head) (asks .kind); room = asks .room }
 
-  module _ (count skipped passed : ℕ) (ec : count ≡ needed (h .width) k) (searched : SearchIs (s .unavailable) (k .starts) (k .tries) count skipped passed)
+  pub search-asks : (from count : ℕ) → MayBegin h k (asRules s) from → count ≡ needed (h .width) k → SearchAsks (s .unavailable) (k .starts) from (k .tries) count
+  search-asks from count cursor e = record { runs = runs-within h k (asks .head) (asks .kind) count e; skips = rw e (cursor .low) }
+
+  module _ (from count skipped passed : ℕ) (ec : count ≡ needed (h .width) k) (searched : SearchIs (s .unavailable) (k .starts) from (k .tries) count skipped passed)
       (place : Placement) (ep : place ≡ placeFound (k .shape) (k .flags) (k .starts) (k .tries) count skipped (s .p)) where
     count-starts : length (startsOf k) ≡ k .tries
     count-starts = starts-count h k (asks .head) (asks .kind)
@@ -105,11 +108,16 @@ module _ (h : Head) (k : SheetKind) (s : RulesAt) (asks : RulesStepAsks h k (asR
       stack = rw placed (omega (arith, asks .room, stack-end h k (asks .head) (asks .kind) (asRules s)));
     }
 
-    pub step-is : (next : ByRules) → AfterIs (k .flags) passed place (asRules s) next → RulesStepIs h k (asRules s) place next
+    pub step-is : MayBegin h k (asRules s) from → (next : ByRules) → AfterIs (k .flags) passed place (asRules s) next
+        → (then : ℕ) → CursorIs (k .flags) skipped then → StepFromIs h k (asRules s) place next then
     unfolding rulesAfter stateAfter
-    step-is next after = record {
-      placed = placed;
-      reached = after .state count (take skipped (k .starts)) (searched .passes) ∙ rw (← placed, ← ec, ← es, take-take skipped (k .tries) (k .starts) tried);
+    step-is cursor next after then is = record {
+      step = record {
+        placed = placed;
+        reached = after .state count (take skipped (k .starts)) (λ l. searched .passes (cursor .closes l))
+            ∙ rw (← placed, ← ec, ← es, take-take skipped (k .tries) (k .starts) tried);
+      };
+      cursor = record { low = omega (arith, rw (es, ec) at (is .low)); closes = is .closes };
     }
 
 -- What comes after a place: what it takes, and the registers that were passed too where the kind closes.
@@ -121,7 +129,7 @@ module _ (flags passed : ℕ) (place : Placement) (s : RulesAt) (taken : ℕ) (p
 
   pub after-closed : 2 ≤ flags → AfterIs flags passed place (asRules s) (asRules (record { unavailable = bitOr taken passed; p = p }))
   unfolding stateAfter
-  after-closed l = record { state = λ count skipped marks. rw (le-leb 2 flags l, ← marks taken, et, ep) }
+  after-closed l = record { state = λ count skipped marks. rw (le-leb 2 flags l, ← marks l taken, et, ep) }
 
 -- p grows by at most `stepMost`.
 pub p-grows : (h : Head) (k : SheetKind) (s : ByRules) → HeadRead h → SheetKindRead h k

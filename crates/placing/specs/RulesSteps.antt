@@ -19,7 +19,8 @@ use Rattle.convention.specs.Fields.{isModulus}
 use Rattle.convention.specs.Offsets.{leastOffset}
 use Rattle.convention.specs.Promised.{HeadRead, SheetKindRead, SheetRead}
 use Rattle.convention.specs.Lists.{recordLength}
-use Rattle.convention.specs.Rules.{skippedBefore, markRuns, placeTaken, placeP, rulesPlace, rulesAfter, byRules}
+use Rattle.convention.specs.Sheets.{sheetKind}
+use Rattle.convention.specs.Rules.{skippedBefore, skippedOf, markRuns, placeTaken, placeP, rulesPlace, rulesAfter, byRules}
 use Rattle.convention.specs.Shapes.{stackBytes, stepMost, pMost}
 use Rattle.stepping.specs.Ends.{runEnd, stackEnd}
 use Rattle.stepping.specs.Sets.{setOf}
@@ -39,16 +40,21 @@ pub record RunsWithin (starts : List ℕ) (tries count : ℕ) : Type 0 where
 abbrev pub Marks : ℕ → List ℕ → ℕ → Type 0
 Marks count starts set = (b : ℕ) → markRuns (setOf 16 b) count starts ≡ setOf 16 (bitOr b set)
 
--- What a search of the first `tries` starts found: how many were skipped, and the registers of their runs.
-pub record SearchIs (taken : ℕ) (starts : List ℕ) (tries count skipped passed : ℕ) : Type 0 where
+-- A search of the first `tries` starts that begins at start `from`: those before it are skipped.
+pub record SearchAsks (taken : ℕ) (starts : List ℕ) (from tries count : ℕ) : Type 0 where
+  pub runs : RunsWithin starts tries count
+  pub skips : from ≤ skippedBefore (setOf 16 taken) count (take tries starts)
+
+-- What it found: how many were skipped, and the registers of their runs where it began at the first start.
+pub record SearchIs (taken : ℕ) (starts : List ℕ) (from tries count skipped passed : ℕ) : Type 0 where
   pub skips : skipped ≡ skippedBefore (setOf 16 taken) count (take tries starts)
-  pub passes : Marks count (take skipped starts) passed
+  pub passes : from ≡ 0 → Marks count (take skipped starts) passed
 
 -- Half way through it, before start i.
-pub record Searching (taken : ℕ) (starts : List ℕ) (tries count i passed : ℕ) : Type 0 where
+pub record Searching (taken : ℕ) (starts : List ℕ) (from tries count i passed : ℕ) : Type 0 where
   pub within : i ≤ tries
   pub skips : i + skippedBefore (setOf 16 taken) count (drop i (take tries starts)) ≡ skippedBefore (setOf 16 taken) count (take tries starts)
-  pub passes : Marks count (take i starts) passed
+  pub passes : from ≡ 0 → Marks count (take i starts) passed
 
 -- A place: an alignment that was read, the starts that are tried, and room on the stack.
 pub record PlaceAsks (shape : Shape) (starts : List ℕ) (tries : ℕ) (p : Offset) : Type 0 where
@@ -74,9 +80,14 @@ stateAfter flags count skipped place s = record {
   p = placeP place (s .p);
 }
 
--- The state after a place, whatever starts it was whose runs were passed.
+-- The state after a place, whatever starts it was whose runs were passed; a kind that is not closing takes none of their registers.
 pub record AfterIs (flags passed : ℕ) (place : Placement) (s next : ByRules) : Type 0 where
-  pub state : (count : ℕ) (skipped : List ℕ) → Marks count skipped passed → next ≡ stateAfter flags count skipped place s
+  pub state : (count : ℕ) (skipped : List ℕ) → (2 ≤ flags → Marks count skipped passed) → next ≡ stateAfter flags count skipped place s
+
+-- Where a search may begin: after no more starts than are skipped, and at the first where the kind is closing.
+pub record CursorIs (flags skipped from : ℕ) : Type 0 where
+  pub low : from ≤ skipped
+  pub closes : 2 ≤ flags → from ≡ 0
 
 -- One step: a head and a kind that were read, and room on the stack.
 pub record RulesStepAsks (h : Head) (k : SheetKind) (s : ByRules) : Type 0 where
@@ -89,16 +100,33 @@ pub record RulesStepIs (h : Head) (k : SheetKind) (s : ByRules) (place : Placeme
   pub placed : place ≡ rulesPlace (h .width) k s
   pub reached : next ≡ rulesAfter (h .width) k s
 
+-- The same of a kind's search in a state.
+abbrev pub MayBegin : Head → SheetKind → ByRules → ℕ → Type 0
+MayBegin h k s from = CursorIs (k .flags) (skippedOf (h .width) k (s .unavailable)) from
+
+-- One step whose search begins there.
+pub record StepFromAsks (h : Head) (k : SheetKind) (s : ByRules) (from : ℕ) : Type 0 where
+  pub step : RulesStepAsks h k s
+  pub cursor : MayBegin h k s from
+
+-- What it answers: that step, and where a search may begin.
+pub record StepFromIs (h : Head) (k : SheetKind) (s : ByRules) (place : Placement) (next : ByRules) (from : ℕ) : Type 0 where
+  pub step : RulesStepIs h k s place next
+  pub cursor : MayBegin h k s from
+
 -- A list of kinds of a sheet that was read, of no more arguments than a call places, and memory for its records.
 pub record RulesListAsks (sheet : Sheet) (ks : List ℕ) (long : ℕ) : Type 0 where
   pub read : SheetRead sheet
   pub listed : Listed argumentLimit (sheet .head .kinds) ks
   pub room : recordLength * length ks ≤ long
 
--- Half way through a list, before argument i: what is left gives the rest of the answer and of the records, and p is no further than i arguments can take it.
-pub record RulesMaking (sheet : Sheet) (ks before : List ℕ) (s : ByRules) (i : ℕ) (made : List ℕ) : Type 0 where
+-- Half way through a list, before argument i: what is left gives the rest of the answer and of the records, p is no further than i arguments can take it, and
+-- each kind's search may begin where `from` says.
+pub record RulesMaking (sheet : Sheet) (ks before : List ℕ) (s : ByRules) (from : List ℕ) (i : ℕ) (made : List ℕ) : Type 0 where
   pub rest : MakeRest (byRules sheet) ks before s i made
   pub reach : s .p .0 ≤ pMost i
+  pub eight : length from ≡ 8
+  pub cursors : (k : ℕ) → k < 8 → MayBegin (sheet .head) (sheetKind sheet k) s (getD from k 0)
 
 -- A sheet that was read, and memory for the records of a list that passes its first tests with so much room.
 pub record DecideAsks (sheet : Sheet) (ks : List ℕ) (room long : ℕ) : Type 0 where

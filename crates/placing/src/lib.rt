@@ -20,8 +20,11 @@ ghost use Rattle.convention.specs.Numbers.{argumentLimit};
 ghost use Rattle.convention.specs.Promised.{SheetRead};
 ghost use Rattle.convention.specs.Rules.{byRules, placeByRules, rulesMemory, rulesBegin};
 ghost use Rattle.stepping.specs.Walks.{WalkMakes, DecidedIs, PlacingIs};
-ghost use Rattle.placing.specs.RulesSteps.{asRules, RunsWithin, SearchIs, PlaceAsks, placeFound, AfterAsks, AfterIs};
-ghost use Rattle.placing.specs.RulesSteps.{RulesStepAsks, RulesStepIs, RulesListAsks, DecideAsks, ShortAsks};
+ghost use Rattle.placing.specs.RulesSteps.{asRules, SearchAsks, SearchIs, PlaceAsks, placeFound, AfterAsks, AfterIs, CursorIs};
+ghost use Rattle.placing.specs.RulesSteps.{StepFromAsks, StepFromIs, RulesStepAsks, RulesStepIs, RulesListAsks, DecideAsks, ShortAsks};
+
+// How many kinds a sheet has at most.
+const MOST_KINDS: usize = 8;
 
 // How far placing has come: the unavailable registers, a bit for each, and p.
 pub struct RulesAt {
@@ -29,20 +32,21 @@ pub struct RulesAt {
     pub p: Offset,
 }
 
-// What a search of a kind's starts found: how many were tried and not taken, which are those before the first whose run is wholly
-// available, or all of them; and the registers of their runs, available or not, a bit for each.
+// What a search of a kind's starts found: how many are skipped, which are those before the first whose run is wholly
+// available, or all of them; and the registers of the runs that were tried and not taken, available or not, a bit for each.
 struct Searched {
     skipped: u8,
     passed: u32,
 }
 
-// Rule 1: tries the first `tries` starts of a kind that needs `count` registers, in order.
-fn search(taken: u32, starts: &[u8], tries: u8, count: u8) -> Searched
-    requires { ⌜ RunsWithin (now starts) tries count ⌝ }
-    ensures { λ r. ⌜ SearchIs taken (now (starts .entry)) tries count (r .skipped) (r .passed) ⌝ }
+// Rule 1: tries the first `tries` starts of a kind that needs `count` registers, in order, from start `from` on. Those before
+// it are skipped: the run of none of them is wholly available.
+fn search(taken: u32, starts: &[u8], from: u8, tries: u8, count: u8) -> Searched
+    requires { ⌜ SearchAsks taken (now starts) from tries count ⌝ }
+    ensures { λ r. ⌜ SearchIs taken (now (starts .entry)) from tries count (r .skipped) (r .passed) ⌝ }
 {
     let mut passed: u32 = 0;
-    let mut i: u8 = 0;
+    let mut i = from;
     while i < tries {
         let start = starts[i as usize];
         let run = stepping::run(Reg(start), count);
@@ -98,6 +102,49 @@ fn after(flags: u8, passed: u32, place: Placement, s: RulesAt) -> RulesAt
     }
 }
 
+// Where the next search of a kind may begin, after one that skipped so many starts: a register never becomes available again.
+// A closing kind takes the registers of every start that it skips, so its searches begin at the first.
+fn cursor(flags: u8, skipped: u8) -> u8
+    ensures { λ r. ⌜ CursorIs flags skipped r ⌝ }
+{
+    if 2 <= flags {
+        return 0;
+    }
+    skipped
+}
+
+// One argument placed: its place, how far placing has come after it, and where the next search of its kind may begin.
+struct StepFrom {
+    place: Placement,
+    next: RulesAt,
+    from: u8,
+}
+
+// One step by the rules whose search begins at start `from`, where an earlier one of the kind allowed it, or at the first.
+fn step_from(head: Head, kind: SheetKind, s: RulesAt, from: u8) -> StepFrom
+    requires { ⌜ StepFromAsks head kind (asRules s) from ⌝ }
+    ensures { λ r. ⌜ StepFromIs head kind (asRules s) (r .place) (asRules (r .next)) (r .from) ⌝ }
+{
+    let starts = kind.starts;
+    let count = shapes::registers_needed(head.width, kind.shape);
+    let searched = search(s.unavailable, &starts, from, kind.tries, count);
+    let found = place(
+        kind.shape,
+        kind.flags,
+        &starts,
+        kind.tries,
+        count,
+        searched.skipped,
+        s.p,
+    );
+    let reached = after(kind.flags, searched.passed, found, s);
+    StepFrom {
+        place: found,
+        next: reached,
+        from: cursor(kind.flags, searched.skipped),
+    }
+}
+
 // One argument placed: its place, and how far placing has come after it.
 pub struct RulesStep {
     pub place: Placement,
@@ -109,20 +156,10 @@ pub fn step(head: Head, kind: SheetKind, s: RulesAt) -> RulesStep
     requires { ⌜ RulesStepAsks head kind (asRules s) ⌝ }
     ensures { λ r. ⌜ RulesStepIs head kind (asRules s) (r .place) (asRules (r .next)) ⌝ }
 {
-    let starts = kind.starts;
-    let count = shapes::registers_needed(head.width, kind.shape);
-    let searched = search(s.unavailable, &starts, kind.tries, count);
-    let found = place(
-        kind.shape,
-        kind.flags,
-        &starts,
-        kind.tries,
-        count,
-        searched.skipped,
-        s.p,
-    );
-    let next = after(kind.flags, searched.passed, found, s);
-    RulesStep { place: found, next }
+    let tried = step_from(head, kind, s, 0);
+    let place = tried.place;
+    let next = tried.next;
+    RulesStep { place, next }
 }
 
 // Every register available, and p = 0.
@@ -136,17 +173,20 @@ fn begin() -> RulesAt
 }
 
 // Goes through a list of known kinds up to its first argument without a place, and makes the records of those before it in
-// `records`. The kind is taken here and not in a function of its own, which would copy the whole sheet for each argument.
+// `records`. The next search of each kind begins where `from` says. The kind is taken here and not in a function of its own,
+// which would copy the whole sheet for each argument.
 fn walk(sheet: Sheet, list: &[u8], records: &mut [u8]) -> Walk
     requires { ⌜ RulesListAsks sheet (now list) (length (now records)) ⌝ }
     ensures { λ r. ⌜ WalkMakes (byRules sheet) (now (list .entry)) (now (records .entry)) (r .fault) (r .stop) (r .p) (now (records .exit)) ⌝ }
 {
     let head = sheet.head;
+    let mut from = [0u8; MOST_KINDS];
     let mut s = begin();
     let mut i = 0;
     while i < list.len() {
-        let kind = sheet.kinds[list[i] as usize];
-        let tried = step(head, kind, s);
+        let k = list[i] as usize;
+        let kind = sheet.kinds[k];
+        let tried = step_from(head, kind, s, from[k]);
         let place = tried.place;
         let fault = stepping::place_fault(place);
         if fault != 0 {
@@ -154,6 +194,7 @@ fn walk(sheet: Sheet, list: &[u8], records: &mut [u8]) -> Walk
             return Walk { fault, stop: i, p };
         }
         stepping::write_record(place, records, RECORD_LENGTH * i);
+        from[k] = tried.from;
         s = tried.next;
         i += 1;
     }

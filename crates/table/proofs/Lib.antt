@@ -1,4 +1,5 @@
 pub mod Runs
+pub mod There
 pub mod Stored
 pub mod Whole
 pub mod Rows

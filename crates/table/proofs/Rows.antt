@@ -9,7 +9,7 @@ use lib.Dec.{ltb}
 use lib.ListN.{length, take, drop}
 use mir.Syntax.{w8, w16, w64}
 use mir.Val.{Fits}
-use borrow.Author.Tests.{le-leb, lt-leb, lt-ltb, le-ltb}
+use borrow.Author.Tests.{le-leb, lt-ltb, le-ltb}
 use denote.Ref.{RefT}
 use denote.Slice.{slice-vals}
 use Rattle.convention.specs.declared.Head.{Head}
@@ -26,16 +26,11 @@ use Rattle.convention.proofs.Tables.{row-refused, row-tests, row-part, row-is, 
 use Rattle.table.specs.Within.{InTable}
 use Rattle.table.specs.Rows.{after, RowPart}
 
--- The number of a transition: its bytes are there, or they are not.
-module _ (v : ℕ) (h : Head) (states : ℕ) (t : List ℕ) (at long : ℕ) (e : long ≡ transitionLength v) where
-  pub transition-number : (x : Transition) (right : Bool) (number : ℕ) → at + long ≤ length t → x ≡ transitionOf v t at → right ≡ isTransition h states x
-      → number ≡ unless right 7 → number ≡ transitionNo v h states t at
-  unfolding transitionNo
-  transition-number x right number l ex er en = rw (en, er, ex, ← e, le-leb _ _ l)
-
-  pub transition-missing : length t < at + long → 3 ≡ transitionNo v h states t at
-  unfolding transitionNo
-  transition-missing l = rw (← e, lt-leb _ _ l)
+-- The number of a transition whose bytes are there.
+pub transition-number : (v : ℕ) (h : Head) (states : ℕ) (t : List ℕ) (at : ℕ) (x : Transition) (right : Bool) (number : ℕ)
+    → at + transitionLength v ≤ length t → x ≡ transitionOf v t at → right ≡ isTransition h states x → number ≡ unless right 7 → number ≡ transitionNo v h states t at
+unfolding transitionNo
+transition-number v h states t at x right number l ex er en = rw (en, er, ex, le-leb _ _ l)
 
 -- The number of all transitions fits, whatever a byte says of the kinds and two bytes of the states.
 product : (m n : ℕ) → Fits w8 m → Fits w16 n → m * n ≤ 255 * 65535

@@ -25,7 +25,7 @@ ghost use Rattle.convention.specs.Fields.{versionOf, headOf, leftOverNo};
 ghost use Rattle.convention.specs.Sheets.{blankShape};
 ghost use Rattle.convention.specs.Tables.{tableKindsNo, tableKindsOf, statesOf, statesNo, transitionOf, isTransition, transitionNo, transitionsNo, tableNo, tableOf, blankTable, readTable, transition, rowNo};
 ghost use Rattle.convention.specs.Promised.{TableRead};
-ghost use Rattle.table.specs.Within.{KindsThere, InTable};
+ghost use Rattle.table.specs.Within.{KindsThere, TransitionsThere, InTable};
 ghost use Rattle.table.specs.Rows.{RowPart};
 
 // The number of the kinds, 5 or 3 for the first that is wrong or missing, in a table that is at least as long as its head.
@@ -121,22 +121,18 @@ fn is_transition(head: Head, states: u16, x: Transition) -> bool
     (x.form == 2) & (x.a < head.modulus) & (x.next < states)
 }
 
-// The number of the transition at byte `at`, which is no further than the table's end: 3 where its bytes are not there, 7
-// where they are wrong.
+// The number of the transition whose bytes, which are there, begin at byte `at`: 7 where they are wrong.
 fn transition_no(version: u8, head: Head, states: u16, t: &[u8], at: usize) -> u8
-    requires { ⌜ at ≤ length (now t) ⌝ }
+    requires { ⌜ at + transitionLength version ≤ length (now t) ⌝ }
     ensures { λ r. ⌜ r ≡ transitionNo version head states (now (t .entry)) at ⌝ }
 {
-    if t.len() < at + layout::transition_length(version) {
-        return 3;
-    }
     let right = is_transition(head, states, read_transition(version, t, at));
     fields::unless(right, 7)
 }
 
-// The number of `count` transitions one after the other, from byte `first` on: that of the first that is missing or wrong.
-fn transitions_no(version: u8, head: Head, states: u16, t: &[u8], first: usize, count: usize) -> u8
-    requires { ⌜ first ≤ length (now t) ⌝ }
+// The number of `count` transitions one after the other, from byte `first` on, whose bytes are all there.
+fn there_no(version: u8, head: Head, states: u16, t: &[u8], first: usize, count: usize) -> u8
+    requires { ⌜ first + transitionLength version * count ≤ length (now t) ⌝ }
     ensures { λ r. ⌜ r ≡ transitionsNo version head states (now (t .entry)) first count ⌝ }
 {
     let mut at = first;
@@ -150,6 +146,26 @@ fn transitions_no(version: u8, head: Head, states: u16, t: &[u8], first: usize, 
         left -= 1;
     }
     0
+}
+
+// How many of `count` transitions from byte `first` on, which is no further than the table's end, have all their bytes there.
+fn transitions_there(version: u8, t: &[u8], first: usize, count: usize) -> usize
+    requires { ⌜ first ≤ length (now t) ⌝ }
+    ensures { λ r. ⌜ TransitionsThere version (now (t .entry)) first count r ⌝ }
+{
+    let there = (t.len() - first) / layout::transition_length(version);
+    if there < count { there } else { count }
+}
+
+// The number of `count` transitions one after the other, from byte `first` on: that of the first that is missing or wrong.
+fn transitions_no(version: u8, head: Head, states: u16, t: &[u8], first: usize, count: usize) -> u8
+    requires { ⌜ first ≤ length (now t) ⌝ }
+    ensures { λ r. ⌜ r ≡ transitionsNo version head states (now (t .entry)) first count ⌝ }
+{
+    let there = transitions_there(version, t, first, count);
+    let wrong = there_no(version, head, states, t, first, there);
+    let missing = fields::unless(count <= there, 3);
+    fields::or_else(wrong, missing)
 }
 
 // The number of what stands after the number of states, which is there: that of the transitions, and then 6 for bytes left

@@ -13,9 +13,6 @@ slice-aggregate-explore-2 c = search needs
 explore-requires : tie.Need-explore-requires
 explore-requires c κs = search (nothing-linked, needs)
 
-cast-t12 : tie.Need-cast-t12
-cast-t12 c = search needs
-
 same-length : tie.Need-same-length
 same-length c = search needs
 
@@ -29,6 +26,5 @@ decide-spec =
     slice-aggregate-explore
     slice-aggregate-explore-2
     explore-requires
-    cast-t12
     same-length
     returns)

@@ -29,9 +29,6 @@ mul-kind c = search needs
 element-copy-out-kind : tie.Need-element-copy-out-kind Inv-loop μ-loop
 element-copy-out-kind c = search needs
 
-cast-cell-at : tie.Need-cast-cell-at Inv-loop μ-loop
-cast-cell-at c = search needs
-
 cell-at-requires : tie.Need-cell-at-requires Inv-loop μ-loop
 cell-at-requires c κs = search needs
 
@@ -70,7 +67,6 @@ pass-kinds-spec =
     cast-kind
     mul-kind
     element-copy-out-kind
-    cast-cell-at
     cell-at-requires
     pass-requires
     add-k

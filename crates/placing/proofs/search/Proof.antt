@@ -1,4 +1,4 @@
--- `search`: before each start, what is skipped is counted as in the whole, and the runs of those before it were passed; the first run that is free ends it.
+-- `search`: before each start, what is skipped is counted as in the whole, and the runs of those that were tried before it were passed; the first run that is free ends it.
 use Prim.Native.Nat.{_-_}
 use Rattle.placing.specs.RulesSteps.{Searching}
 use Rattle.placing.proofs.Starts.{start-there, start-within, search-begin, search-hit, search-on, search-end}
@@ -7,10 +7,10 @@ use Rattle.placing.proofs.search.Statement.{statement}
 use Rattle.placing.proofs.search.Tie as tie
 
 abbrev Inv-loop : tie.InvT-loop
-Inv-loop taken starts tries count passed₀ i₀ passed i = Searching taken starts tries count i passed
+Inv-loop taken starts from tries count passed₀ i₀ passed i = Searching taken starts from tries count i passed
 
 abbrev μ-loop : tie.MeasureT-loop
-μ-loop taken starts tries count passed₀ i₀ passed i = tries - i
+μ-loop taken starts from tries count passed₀ i₀ passed i = tries - i
 
 loop-holds : tie.Need-loop-holds Inv-loop μ-loop
 loop-holds c = search (search-begin, needs)

@@ -1,4 +1,4 @@
--- `walk`: at each argument, what is left of the list gives the rest, and p leaves room for one more step.
+-- `walk`: at each argument, what is left of the list gives the rest, p leaves room for one more step, and each kind's search may begin where its cursor says.
 use Rattle.placing.proofs.Lists.{making-begin, kind-there, next-asks, next-room, making-hit, making-on, making-end}
 use Rattle.placing.specs.RulesSteps.{asRules, RulesMaking}
 use lib.ListN.{length}
@@ -9,10 +9,10 @@ use Rattle.placing.proofs.walk.Statement.{statement}
 use Rattle.placing.proofs.walk.Tie as tie
 
 abbrev Inv-loop : tie.InvT-loop
-Inv-loop list records₀ sheet head s₀ i₀ records s i = RulesMaking sheet list records₀ (asRules s) i records
+Inv-loop list records₀ sheet head from₀ s₀ i₀ records from s i = RulesMaking sheet list records₀ (asRules s) from i records
 
 abbrev μ-loop : tie.MeasureT-loop
-μ-loop list records₀ sheet head s₀ i₀ records s i = length list - i
+μ-loop list records₀ sheet head from₀ s₀ i₀ records from s i = length list - i
 
 begin-requires : tie.Need-begin-requires Inv-loop μ-loop
 begin-requires c κs = search needs
@@ -20,11 +20,11 @@ begin-requires c κs = search needs
 loop-holds : tie.Need-loop-holds Inv-loop μ-loop
 loop-holds c = search (making-begin, needs)
 
-shared-slice-read-kind : tie.Need-shared-slice-read-kind Inv-loop μ-loop
-shared-slice-read-kind c = search needs
+shared-slice-read-k : tie.Need-shared-slice-read-k Inv-loop μ-loop
+shared-slice-read-k c = search needs
 
-cast-kind : tie.Need-cast-kind Inv-loop μ-loop
-cast-kind c = fits-under _ _ 8 (search (kind-there, needs)) tt
+cast-k : tie.Need-cast-k Inv-loop μ-loop
+cast-k c = fits-under _ _ 8 (search (kind-there, needs)) tt
 
 mul-kind : tie.Need-mul-kind Inv-loop μ-loop
 mul-kind c = scaled-fits _ 8 20 (search (kind-there, needs)) (lit< tt)
@@ -32,8 +32,11 @@ mul-kind c = scaled-fits _ 8 20 (search (kind-there, needs)) (lit< tt)
 element-copy-out-kind : tie.Need-element-copy-out-kind Inv-loop μ-loop
 element-copy-out-kind c = search (kind-there, needs)
 
-step-requires : tie.Need-step-requires Inv-loop μ-loop
-step-requires c κs = search (next-asks, needs)
+array-read-step-from : tie.Need-array-read-step-from Inv-loop μ-loop
+array-read-step-from c = search (kind-there, needs)
+
+step-from-requires : tie.Need-step-from-requires Inv-loop μ-loop
+step-from-requires c κs = search (next-asks, needs)
 
 place-fault-requires : tie.Need-place-fault-requires Inv-loop μ-loop
 place-fault-requires c κs = search needs
@@ -49,6 +52,9 @@ mul-write-record c = search needs
 
 write-record-requires : tie.Need-write-record-requires Inv-loop μ-loop
 write-record-requires c κs = search (next-room, needs)
+
+array-write-from : tie.Need-array-write-from Inv-loop μ-loop
+array-write-from c = search (kind-there, needs)
 
 add-i : tie.Need-add-i Inv-loop μ-loop
 add-i c = search needs
@@ -73,16 +79,18 @@ walk-spec =
     μ-loop
     begin-requires
     loop-holds
-    shared-slice-read-kind
-    cast-kind
+    shared-slice-read-k
+    cast-k
     mul-kind
     element-copy-out-kind
-    step-requires
+    array-read-step-from
+    step-from-requires
     place-fault-requires
     same-length
     returns
     mul-write-record
     write-record-requires
+    array-write-from
     add-i
     loop-less
     loop-again

@@ -1,56 +1,30 @@
--- `transitions_no`: the transitions that are left give the number of all, at each turn.
-use Rattle.table.proofs.Runs.{RunRest, transitionsRun, transitions-run, run-turn, run-hit, run-done}
-use Rattle.convention.specs.Tables.{transitionsNo}
-use mathlib.Core.Path.{refl}
+-- `transitions_no`: those that are there, and then whether others are missing.
+use Rattle.table.proofs.There.{all-number}
 use borrow.Author.Needs.{needs}
 use Rattle.table.proofs.transitions_no.Statement.{statement}
 use Rattle.table.proofs.transitions_no.Tie as tie
 
-abbrev Inv-loop : tie.InvT-loop
-Inv-loop version head states t first count at₀ left₀ at left = RunRest t (transitionsRun version head states t) (transitionsNo version head states t first count) at left
+transitions-there-requires : tie.Need-transitions-there-requires
+transitions-there-requires c κs = search needs
 
-abbrev μ-loop : tie.MeasureT-loop
-μ-loop version head states t first count at₀ left₀ at left = left
+there-no-requires : tie.Need-there-no-requires
+there-no-requires c κs = search needs
 
-loop-holds : tie.Need-loop-holds Inv-loop μ-loop
-loop-holds c = record { within = c .before .pre; numbers = refl }
+unless-requires : tie.Need-unless-requires
+unless-requires c κs = search needs
 
-transition-no-requires : tie.Need-transition-no-requires Inv-loop μ-loop
-transition-no-requires c κs = search needs
+or-else-requires : tie.Need-or-else-requires
+or-else-requires c κs = search needs
 
-returns : tie.Need-returns Inv-loop μ-loop
-returns c = search (run-hit, transitions-run, needs)
-
-transition-length-requires : tie.Need-transition-length-requires Inv-loop μ-loop
-transition-length-requires c κs = search needs
-
-add-at : tie.Need-add-at Inv-loop μ-loop
-add-at c = search needs
-
-sub-left : tie.Need-sub-left Inv-loop μ-loop
-sub-left c = search needs
-
-loop-less : tie.Need-loop-less Inv-loop μ-loop
-loop-less c = search needs
-
-loop-again : tie.Need-loop-again Inv-loop μ-loop
-loop-again c = search (run-turn, transitions-run, needs)
-
-returns-2 : tie.Need-returns-2 Inv-loop μ-loop
-returns-2 c = search (run-done, transitions-run, needs)
+returns : tie.Need-returns
+returns c = search (all-number, needs)
 
 pub transitions-no-spec : {M : Type 1} → statement M
 transitions-no-spec =
     tie.close
     (tie.spec
-    Inv-loop
-    μ-loop
-    loop-holds
-    transition-no-requires
-    returns
-    transition-length-requires
-    add-at
-    sub-left
-    loop-less
-    loop-again
-    returns-2)
+    transitions-there-requires
+    there-no-requires
+    unless-requires
+    or-else-requires
+    returns)

@@ -1,9 +1,7 @@
 -- `find_state`: at each turn no state from number `at` on has the key, and the state before it, if any, has the key's slot.
-use Prim.Native.Nat.{suc}
-use Rattle.convention.specs.Numbers.{stateLimit}
 use Rattle.building.specs.Links.{Seeking}
-use Rattle.building.proofs.Linking.{first-few, seek-few, seek-begin, seek-here, seek-on, seek-less, seek-end}
-use borrow.Author.Needs.{needs, fits-under}
+use Rattle.building.proofs.Linking.{seek-begin, seek-here, seek-on, seek-less, seek-end}
+use borrow.Author.Needs.{needs}
 use Rattle.building.proofs.memory.find_state.Statement.{statement}
 use Rattle.building.proofs.memory.find_state.Tie as tie
 
@@ -25,14 +23,14 @@ mul-at c = search needs
 shared-slice-read-at : tie.Need-shared-slice-read-at Inv-loop μ-loop
 shared-slice-read-at c = search needs
 
-cast-at : tie.Need-cast-at Inv-loop μ-loop
-cast-at c = fits-under _ _ (suc stateLimit) (search (first-few, needs)) tt
-
 loop-holds : tie.Need-loop-holds Inv-loop μ-loop
 loop-holds c = search (seek-begin, needs)
 
-sub-if1 : tie.Need-sub-if1 Inv-loop μ-loop
-sub-if1 c = search needs
+sub-number : tie.Need-sub-number Inv-loop μ-loop
+sub-number c = search needs
+
+cast-if1 : tie.Need-cast-if1 Inv-loop μ-loop
+cast-if1 c = search needs
 
 mul-if1 : tie.Need-mul-if1 Inv-loop μ-loop
 mul-if1 c = search needs
@@ -40,23 +38,17 @@ mul-if1 c = search needs
 shared-slice-read-if1 : tie.Need-shared-slice-read-if1 Inv-loop μ-loop
 shared-slice-read-if1 c = search needs
 
-sub-result : tie.Need-sub-result Inv-loop μ-loop
-sub-result c = search needs
-
 returns : tie.Need-returns Inv-loop μ-loop
 returns c = search (seek-here, needs)
 
-sub-at : tie.Need-sub-at Inv-loop μ-loop
-sub-at c = search needs
+cast-at : tie.Need-cast-at Inv-loop μ-loop
+cast-at c = search needs
 
 mul-at-2 : tie.Need-mul-at-2 Inv-loop μ-loop
 mul-at-2 c = search needs
 
 shared-slice-read-at-2 : tie.Need-shared-slice-read-at-2 Inv-loop μ-loop
 shared-slice-read-at-2 c = search needs
-
-cast-at-2 : tie.Need-cast-at-2 Inv-loop μ-loop
-cast-at-2 c = fits-under _ _ (suc stateLimit) (search (seek-few, needs)) tt
 
 loop-less : tie.Need-loop-less Inv-loop μ-loop
 loop-less c = search (seek-less, needs)
@@ -77,17 +69,15 @@ find-state-spec =
     add-at
     mul-at
     shared-slice-read-at
-    cast-at
     loop-holds
-    sub-if1
+    sub-number
+    cast-if1
     mul-if1
     shared-slice-read-if1
-    sub-result
     returns
-    sub-at
+    cast-at
     mul-at-2
     shared-slice-read-at-2
-    cast-at-2
     loop-less
     loop-again
     returns-2)

@@ -33,9 +33,6 @@ slice-write-links c = search needs
 add-links : tie.Need-add-links
 add-links c = search needs
 
-cast-links : tie.Need-cast-links
-cast-links c = search needs
-
 add-links-2 : tie.Need-add-links-2
 add-links-2 c = search needs
 
@@ -67,7 +64,6 @@ keep-state-spec =
     mul-links
     slice-write-links
     add-links
-    cast-links
     add-links-2
     mul-links-2
     slice-write-links-2

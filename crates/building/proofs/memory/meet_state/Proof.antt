@@ -19,6 +19,9 @@ same-length-2 c = search needs
 returns : tie.Need-returns
 returns c = search (meets-known, needs)
 
+cast-if2 : tie.Need-cast-if2
+cast-if2 c = search needs
+
 same-length-3 : tie.Need-same-length-3
 same-length-3 c = search needs
 
@@ -31,8 +34,8 @@ returns-2 c = search (meets-over, needs)
 keep-state-requires : tie.Need-keep-state-requires
 keep-state-requires c κs = search (keep-asks, needs)
 
-add-t20 : tie.Need-add-t20
-add-t20 c = search needs
+add-t21 : tie.Need-add-t21
+add-t21 c = search needs
 
 same-length-5 : tie.Need-same-length-5
 same-length-5 c = search needs
@@ -52,11 +55,12 @@ meet-state-spec =
     same-length
     same-length-2
     returns
+    cast-if2
     same-length-3
     same-length-4
     returns-2
     keep-state-requires
-    add-t20
+    add-t21
     same-length-5
     same-length-6
     returns-3)

@@ -4,9 +4,6 @@ use borrow.Author.Needs.{needs}
 use Rattle.building.proofs.writer.write_made.Statement.{statement}
 use Rattle.building.proofs.writer.write_made.Tie as tie
 
-cast-make-transition : tie.Need-cast-make-transition
-cast-make-transition c = search needs
-
 make-transition-requires : tie.Need-make-transition-requires
 make-transition-requires c κs = search needs
 
@@ -23,7 +20,6 @@ pub write-made-spec : {M : Type 1} → statement M
 write-made-spec =
     tie.close
     (tie.spec
-    cast-make-transition
     make-transition-requires
     write-transition-requires
     same-length

@@ -1,8 +1,8 @@
--- `step`: the search, the place and the state after it, in turn.
-use Rattle.placing.proofs.Steps.{runs-within, place-asks, after-asks, step-is}
+-- `step_from`: the search, the place and the state after it, in turn.
+use Rattle.placing.proofs.Steps.{search-asks, place-asks, after-asks, step-is}
 use borrow.Author.Needs.{needs}
-use Rattle.placing.proofs.step.Statement.{statement}
-use Rattle.placing.proofs.step.Tie as tie
+use Rattle.placing.proofs.step_from.Statement.{statement}
+use Rattle.placing.proofs.step_from.Tie as tie
 
 registers-needed-requires : tie.Need-registers-needed-requires
 registers-needed-requires c κs = search needs
@@ -11,7 +11,7 @@ slice-aggregate-search : tie.Need-slice-aggregate-search
 slice-aggregate-search c = search needs
 
 search-requires : tie.Need-search-requires
-search-requires c κs = search (runs-within, needs)
+search-requires c κs = search (search-asks, needs)
 
 slice-aggregate-place : tie.Need-slice-aggregate-place
 slice-aggregate-place c = search needs
@@ -22,11 +22,14 @@ place-requires c κs = search (place-asks, needs)
 after-requires : tie.Need-after-requires
 after-requires c κs = search (after-asks, needs)
 
+cursor-requires : tie.Need-cursor-requires
+cursor-requires c κs = search needs
+
 returns : tie.Need-returns
 returns c = search (step-is, needs)
 
-pub step-spec : {M : Type 1} → statement M
-step-spec =
+pub step-from-spec : {M : Type 1} → statement M
+step-from-spec =
     tie.close
     (tie.spec
     registers-needed-requires
@@ -35,4 +38,5 @@ step-spec =
     slice-aggregate-place
     place-requires
     after-requires
+    cursor-requires
     returns)
