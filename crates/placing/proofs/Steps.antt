@@ -74,7 +74,7 @@ module _ (shape : Shape) (flags : ℕ) (starts : List ℕ) (tries count skipped 
   unfolding placeFound
   found-nowhere l f = rw (le-ltb skipped tries l, ne-eqb _ _ f)
 
--- One step, once the starts were searched: what its place asks and is, what comes after it, and both together.
+-- One step: what its search and its place ask, and once the starts were searched what the place is, what comes after it, and both together.
 module _ (h : Head) (k : SheetKind) (s : RulesAt) (asks : RulesStepAsks h k (asRules s)) where
   pub place-asks : PlaceAsks (k .shape) (k .starts) (k .tries) (s .p)
   place-asks = record { aligned = asks .kind .shape .alignment; there = tries-there h k (asks .head) (asks .kind); room = asks .room }
