@@ -71,11 +71,12 @@ fn fill_row(
 ) -> Waiting
     requires { ⌜ FillRowAsks table (now t) (now sets) (now ring) state ⌝ }
 {
-    let kinds = table.head.kinds;
+    let head = table.head;
+    let kinds = head.kinds;
     let mut more = waiting;
     let mut k: u8 = 0;
     while k < kinds {
-        let x = table::transition_of(table, t, state, k);
+        let x = table::transition_of(table.version, head, t, state, k);
         more = grow(x, here, sets, ring, more);
         k += 1;
     }

@@ -79,7 +79,7 @@ fn check_row(table: Table, t: &[u8], sets: &[u32], state: u16, here: u32, checks
     let mut found = checks;
     let mut k: u8 = 0;
     while k < kinds {
-        let x = table::transition_of(table, t, state, k);
+        let x = table::transition_of(table.version, head, t, state, k);
         let shape = table.kinds[k as usize];
         let next = sets[x.next as usize];
         found = check_transition(head, shape, x, here, next, found);

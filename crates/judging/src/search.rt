@@ -33,7 +33,7 @@ fn go_through(
     let mut met = count;
     let mut k: u8 = 0;
     while k < kinds {
-        let x = table::transition_of(table, t, state, k);
+        let x = table::transition_of(table.version, head, t, state, k);
         let shape = table.kinds[k as usize];
         let step = steps::step(head, shape, x, watch, given);
         if step.fault != 0 {

@@ -16,14 +16,14 @@ use Rattle.convention.specs.declared.Head.{Head}
 use Rattle.convention.specs.declared.Table.{Table}
 use Rattle.convention.specs.declared.Transition.{Transition}
 use Rattle.convention.specs.Numbers.{unless}
-use Rattle.convention.specs.Layout.{transitionLength, rowLength, rowAt, transitionAt}
+use Rattle.convention.specs.Layout.{transitionLength, rowLength, rowAt}
 use Rattle.convention.specs.Fields.{versionOf, headOf}
 use Rattle.convention.specs.Tables.{statesOf, transitionOf, isTransition, transitionNo, tableNo, tableOf, rowNo, row, rowStart}
 use Rattle.convention.specs.Promised.{TableRead}
 use Rattle.convention.proofs.Numbers.{or-first, or-later}
 use Rattle.convention.proofs.Positions.{transition-inside}
 use Rattle.convention.proofs.Tables.{row-refused, row-tests, row-part, row-is, row-start, table-read}
-use Rattle.table.specs.Within.{InTable}
+use Rattle.table.specs.Within.{TransitionThere, InTable}
 use Rattle.table.specs.Rows.{after, RowPart}
 
 -- The number of a transition whose bytes are there.
@@ -42,11 +42,12 @@ product m n fm fn =
 pub count-fits : (m n : ℕ) → Fits w8 m → Fits w16 n → Fits w64 (m * n)
 count-fits m n fm fn = omega (arith, product m n fm fn)
 
--- The bytes of a transition that a table has lie within the table's.
-pub transition-within : (limit : ℕ) (table : Table) (t : List ℕ) (state k : ℕ) → TableRead limit table t → InTable table state k
-    → transitionAt (table .version) (table .head) state k + transitionLength (table .version) ≤ length t
-transition-within limit table t state k read asked =
-    rw (read .whole) (transition-inside (table .version) (table .head) (table .states) state (asked .state) k (asked .kind))
+-- The bytes of a table that was read hold the transition of each kind at each state that it has.
+pub transition-there : (limit : ℕ) (table : Table) (t : List ℕ) (state k : ℕ) → TableRead limit table t → InTable table state k
+    → TransitionThere (table .version) (table .head) t state k
+transition-there limit table t state k read inside = record {
+  within = rw (read .whole) (transition-inside (table .version) (table .head) (table .states) state (inside .state) k (inside .kind));
+}
 
 -- A table that cannot be read gives the number of asking for a row; else the state does.
 module _ (limit : ℕ) (t : List ℕ) (state number : ℕ) (e : number ≡ tableNo limit t) where

@@ -20,12 +20,11 @@ ghost use mathlib.Core.List.{_++_};
 ghost use Prim.Native.Nat.{_+_, _-_, _*_, _≤_};
 ghost use lib.ListN.{length, drop, replicate};
 ghost use Rattle.convention.specs.Numbers.{stateLimit, orElse};
-ghost use Rattle.convention.specs.Layout.{kindsAt, rowsAt, transitionLength, tableLength};
+ghost use Rattle.convention.specs.Layout.{kindsAt, rowsAt, transitionLength, transitionAt, tableLength};
 ghost use Rattle.convention.specs.Fields.{versionOf, headOf, leftOverNo};
 ghost use Rattle.convention.specs.Sheets.{blankShape};
-ghost use Rattle.convention.specs.Tables.{tableKindsNo, tableKindsOf, statesOf, statesNo, transitionOf, isTransition, transitionNo, transitionsNo, tableNo, tableOf, blankTable, readTable, transition, rowNo};
-ghost use Rattle.convention.specs.Promised.{TableRead};
-ghost use Rattle.table.specs.Within.{KindsThere, TransitionsThere, InTable};
+ghost use Rattle.convention.specs.Tables.{tableKindsNo, tableKindsOf, statesOf, statesNo, transitionOf, isTransition, transitionNo, transitionsNo, tableNo, tableOf, blankTable, readTable, rowNo};
+ghost use Rattle.table.specs.Within.{KindsThere, TransitionsThere, TransitionThere};
 ghost use Rattle.table.specs.Rows.{RowPart};
 
 // The number of the kinds, 5 or 3 for the first that is wrong or missing, in a table that is at least as long as its head.
@@ -253,15 +252,12 @@ pub fn read_table(t: &[u8]) -> TableAnswer
     }
 }
 
-// The transition of a kind at a state, both of which the table has; the table is what was read from t. Its bytes are read and
-// nothing is searched.
-pub fn transition_of(table: Table, t: &[u8], state: u16, kind: u8) -> Transition
-    requires { ⌜ TableRead stateLimit table (now t) ⌝ }
-    requires { ⌜ InTable table state kind ⌝ }
-    ensures { λ r. ⌜ r ≡ transition table (now (t .entry)) state kind ⌝ }
+// The transition of a kind at a state, in a table of this version and head, where its bytes are there: they are wherever a table
+// that was read has the state and the kind. They are read and nothing is searched.
+pub fn transition_of(version: u8, head: Head, t: &[u8], state: u16, kind: u8) -> Transition
+    requires { ⌜ TransitionThere version head (now t) state kind ⌝ }
+    ensures { λ r. ⌜ r ≡ transitionOf version (now (t .entry)) (transitionAt version head state kind) ⌝ }
 {
-    let version = table.version;
-    let head = table.head;
     read_transition(
         version,
         t,

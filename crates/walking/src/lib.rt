@@ -151,7 +151,7 @@ fn walk(table: Table, t: &[u8], list: &[u8], records: &mut [u8]) -> Walk
     let mut i = 0;
     while i < list.len() {
         let k = list[i];
-        let x = table::transition_of(table, t, s.state, k);
+        let x = table::transition_of(table.version, head, t, s.state, k);
         let shape = table.kinds[k as usize];
         let stepped = argument(head, shape, x, s, records, RECORD_LENGTH * i);
         if stepped.fault != 0 {
@@ -184,7 +184,7 @@ pub fn list_fault(table: Table, t: &[u8], list: &[u8]) -> u8
     let mut i = 0;
     while i < list.len() {
         let k = list[i];
-        let x = table::transition_of(table, t, state, k);
+        let x = table::transition_of(table.version, head, t, state, k);
         let kind = table.kinds[k as usize];
         let fault = step_fault(head, kind, x, given);
         if fault != 0 {

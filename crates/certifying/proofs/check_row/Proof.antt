@@ -1,6 +1,7 @@
 -- `check_row`: before kind k the transitions of the kinds below it hold.
 use Prim.Native.Nat.{_-_}
 use lib.Dec.{lit<}
+use Rattle.table.proofs.Rows.{transition-there}
 use Rattle.certifying.specs.Checked.{RowIs}
 use Rattle.certifying.proofs.Checking.{row-begin, row-inside, row-kind, row-next, row-there, row-asks, row-on, row-end}
 use borrow.Author.Needs.{needs, fits-under, scaled-fits}
@@ -17,7 +18,7 @@ loop-holds : tie.Need-loop-holds Inv-loop μ-loop
 loop-holds c = search (row-begin, needs)
 
 transition-of-requires : tie.Need-transition-of-requires Inv-loop μ-loop
-transition-of-requires c κs = (search needs, search (row-inside, needs))
+transition-of-requires c κs = search (transition-there, row-inside, needs)
 
 cast-shape : tie.Need-cast-shape Inv-loop μ-loop
 cast-shape c = fits-under _ _ 8 (search (row-kind, needs)) tt

@@ -1,5 +1,6 @@
 -- `list_fault`: what is left of the list has the fault of the whole, from the state and the given registers alone.
 use Rattle.walking.proofs.Faulting.{faulting-begin, faulting-inside, faulting-kind, faulting-asks, faulting-gives, faulting-on, faulting-hit, faulting-end}
+use Rattle.table.proofs.Rows.{transition-there}
 use Rattle.walking.specs.TableSteps.{Faulting}
 use lib.ListN.{length}
 use Rattle.stepping.specs.Sets.{setOf}
@@ -22,7 +23,7 @@ shared-slice-read-k : tie.Need-shared-slice-read-k Inv-loop μ-loop
 shared-slice-read-k c = search needs
 
 transition-of-requires : tie.Need-transition-of-requires Inv-loop μ-loop
-transition-of-requires c κs = (search needs, search (faulting-inside, needs))
+transition-of-requires c κs = search (transition-there, faulting-inside, needs)
 
 cast-kind : tie.Need-cast-kind Inv-loop μ-loop
 cast-kind c = fits-under _ _ 8 (search (faulting-kind, needs)) tt

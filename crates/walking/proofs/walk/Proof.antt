@@ -3,6 +3,7 @@ use Prim.Native.Nat.{_-_}
 use native.Mathlib.Omega.{arith}
 use lib.Dec.{lit<}
 use lib.ListN.{length}
+use Rattle.table.proofs.Rows.{transition-there}
 use Rattle.walking.specs.TableSteps.{asTable, TableStanding}
 use Rattle.walking.proofs.Lists.{standing-begin, next-inside, kind-there, next-asks, standing-on, standing-hit, standing-end}
 use borrow.Author.Needs.{needs, fits-under, scaled-fits}
@@ -25,7 +26,7 @@ shared-slice-read-k : tie.Need-shared-slice-read-k Inv-loop μ-loop
 shared-slice-read-k c = search needs
 
 transition-of-requires : tie.Need-transition-of-requires Inv-loop μ-loop
-transition-of-requires c κs = (search needs, search (next-inside, needs))
+transition-of-requires c κs = search (transition-there, next-inside, needs)
 
 cast-shape : tie.Need-cast-shape Inv-loop μ-loop
 cast-shape c = fits-under _ _ 8 (search (kind-there, needs)) tt

@@ -2,6 +2,7 @@
 use Prim.Native.Nat.{_-_}
 use mathlib.Core.Path.{_≡_}
 use lib.ListN.{length}
+use Rattle.table.proofs.Rows.{transition-there}
 use Rattle.certifying.proofs.Checking.{row-inside}
 use Rattle.certifying.proofs.Growing.{fill-grows}
 use borrow.Author.Needs.{needs}
@@ -9,16 +10,16 @@ use Rattle.certifying.proofs.filling.fill_row.Statement.{statement}
 use Rattle.certifying.proofs.filling.fill_row.Tie as tie
 
 abbrev Inv-loop : tie.InvT-loop
-Inv-loop table t sets₀ ring₀ state here kinds more₀ k₀ sets ring more k = (length sets ≡ length sets₀) × (length ring ≡ length ring₀)
+Inv-loop table t sets₀ ring₀ state here head kinds more₀ k₀ sets ring more k = (length sets ≡ length sets₀) × (length ring ≡ length ring₀)
 
 abbrev μ-loop : tie.MeasureT-loop
-μ-loop table t sets₀ ring₀ state here kinds more₀ k₀ sets ring more k = kinds - k
+μ-loop table t sets₀ ring₀ state here head kinds more₀ k₀ sets ring more k = kinds - k
 
 loop-holds : tie.Need-loop-holds Inv-loop μ-loop
 loop-holds c = search needs
 
 transition-of-requires : tie.Need-transition-of-requires Inv-loop μ-loop
-transition-of-requires c κs = (search needs, search (row-inside, needs))
+transition-of-requires c κs = search (transition-there, row-inside, needs)
 
 grow-requires : tie.Need-grow-requires Inv-loop μ-loop
 grow-requires c κs = search (fill-grows, needs)

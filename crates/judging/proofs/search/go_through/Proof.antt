@@ -2,6 +2,7 @@
 use Prim.Native.Nat.{_-_}
 use mathlib.Core.Path.{refl}
 use lib.Dec.{lit<}
+use Rattle.table.proofs.Rows.{transition-there}
 use Rattle.judging.proofs.Searching.{through-begin, through-state, through-in, through-kind, through-asks, through-hit, through-meets, through-turn, through-end}
 use Rattle.judging.specs.Searched.{GoingThrough}
 use borrow.Author.Needs.{needs, fits-under, scaled-fits}
@@ -27,7 +28,7 @@ loop-holds : tie.Need-loop-holds Inv-loop μ-loop
 loop-holds c = search (through-begin, needs)
 
 transition-of-requires : tie.Need-transition-of-requires Inv-loop μ-loop
-transition-of-requires c κs = (search needs, search (through-in, needs))
+transition-of-requires c κs = search (transition-there, through-in, needs)
 
 cast-shape : tie.Need-cast-shape Inv-loop μ-loop
 cast-shape c = fits-under _ _ 8 (search (through-kind, needs)) tt
