@@ -32,9 +32,11 @@ use Rattle.convention.proofs.Shapes.{needed-right}
 use Rattle.convention.proofs.Numbering.{node-number, met-some, met-start}
 use Rattle.convention.proofs.Scanning.{met-scanned}
 use Rattle.convention.proofs.Exploring.{closed}
+use Rattle.stepping.specs.Sets.{Among}
+use Rattle.stepping.proofs.Runs.{free-among}
 use Rattle.building.specs.Made.{byBuilt}
 use Rattle.building.proofs.Allocations.{allocations-decide, alignment-divides, goes-placed, next-after, made-here}
-use Rattle.building.proofs.Places.{Gives, rules-give, Within, free-within, taken-within, after-within, after-length}
+use Rattle.building.proofs.Places.{Gives, rules-give, taken-among, after-among, after-length}
 use Rattle.building.proofs.Readable.{made-next, built-head, built-kind, built-transition}
 use Rattle.building.proofs.InStep.{InStep, step-fault, step-stop, step-before, step-places, step-state}
 
@@ -53,12 +55,12 @@ module _ (h : Head) (kind : SheetKind) (s : ByRules) (H : HeadRead h) (K : Sheet
   made-place Nowhere next g = refl
 
   -- It has the rules' fault, and no other, where it has given no register that is available in s.
-  made-fault : (place : Placement) (next : ℕ) (given : List Bool) → Gives h kind s place → Within given (s .unavailable)
+  made-fault : (place : Placement) (next : ℕ) (given : List Bool) → Gives h kind s place → Among given (s .unavailable)
       → tableFault h (kind .shape) (made (h .modulus) place next) given ≡ placeFault place
   unfolding tableFault
   made-fault (Registers first count) next given g within =
       let room : rightCount (h .width) count (kind .shape) ≡ true = rw (g .2) (needed-right (h .width) (kind .shape) (width-pos (h .width) (H .width))) in
-      or-on _ _ (unless-true _ 2 (free-within given (s .unavailable) (first .0) count within (g .0))) ∙ unless-true _ 3 room
+      or-on _ _ (unless-true _ 2 (free-among given (s .unavailable) (first .0) count within (g .0))) ∙ unless-true _ 3 room
   made-fault (Stack offset count) next given g within =
       let stored = residue-aligned (kind .shape .alignment) (h .modulus) (s .p .0) aligned (alignment-divides H K) in
       let residue : offset .0 % h .modulus % kind .shape .alignment ≡ 0 = rw (g .0) stored in
@@ -78,7 +80,7 @@ pub record Together (sheet : Sheet) (l : List (Entry (allocations sheet))) (s : 
   pub inside : u .state < length l
   pub node : entry (allocations sheet) l (u .state) .node ≡ allocation (sheet .head .modulus) s
   pub offset : u .p ≡ s .p
-  pub given : Within (u .given) (s .unavailable)
+  pub given : Among (u .given) (s .unavailable)
   pub sixteen : length (s .unavailable) ≡ 16
 
 module _ (limit : ℕ) (sheet : Sheet) (R : SheetRead sheet) (whole : length (builtStates limit sheet) ≤ limit) where
@@ -143,7 +145,7 @@ module _ (limit : ℕ) (sheet : Sheet) (R : SheetRead sheet) (whole : length (bu
           inside = next-inside f;
           node = node-number X (allocations-decide sheet) l _ (next-inside f);
           offset = refl;
-          given = λ r e. after-within (h .width) kind s r (taken-within h kind s place (u .given) gives room (t .given) r e);
+          given = λ r e. after-among (h .width) kind s r (taken-among h kind s place (u .given) gives room (t .given) r e);
           sixteen = after-length (h .width) kind s ∙ t .sixteen;
         })
 

@@ -55,8 +55,8 @@ module _ (states links : List ℕ) (met : Met) (a : Allocation) (key number : �
   module _ (sheet : Sheet) (l : List (Entry (allocations sheet))) (e : Entry (allocations sheet)) (q : e .node ≡ a)
       (keeps : Keeps sheet states (met .count) l) where
     found-at : number ≡ numberOf (allocations sheet) l (e .node)
-    found-at = rw q (number-first (allocations sheet) l a number (omega (arith, keeps .many, finds .passed .within))
-        (λ j o. other-key sheet _ key _ a (keeps .keys j (omega (arith, keeps .many, finds .passed .within))) is (finds .passed .others j o))
+    found-at = rw q (number-first (allocations sheet) l a number (omega (arith, keeps .many, finds .within))
+        (λ j o. other-key sheet _ key _ a (keeps .keys j (omega (arith, keeps .many, finds .within))) is (finds .others j o))
         (λ o. same-key sheet _ key _ a (keeps .keys number o) is (finds .there (omega (arith, keeps .many)))))
 
     -- It is new: it is appended.
@@ -92,13 +92,13 @@ module _ (states links : List ℕ) (met : Met) (a : Allocation) (key number : �
       ];
     };
     numbers = λ sheet l e q holds o. absurd (true≢false o);
-    few = omega (arith, finds .passed .within);
+    few = omega (arith, finds .within);
   }
 
   -- There is room for it after the others, by its key.
   module _ (h : met .count ≤ number) (some : met .count ≡ stateLimit → ⊥) where
     last : number ≡ met .count
-    last = omega (arith, finds .passed .within)
+    last = omega (arith, finds .within)
 
     room : met .count < stateLimit
     room = omega (arith, linked .few, some)

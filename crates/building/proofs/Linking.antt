@@ -38,10 +38,8 @@ module _ (states links : List ℕ) (count key : ℕ) (linked : Linked states lin
     -- It is the one; it is another.
     pub seek-here : getD states (at - 1) 0 ≡ key → Finds states count key (at - 1)
     seek-here e = record {
-      passed = record {
-        within = omega (arith, seeking .within);
-        others = λ j o q. linked .apart j (at - 1) o (omega (arith, seeking .within)) (q ∙ sym e);
-      };
+      within = omega (arith, seeking .within);
+      others = λ j o q. linked .apart j (at - 1) o (omega (arith, seeking .within)) (q ∙ sym e);
       there = λ h. e;
     }
 
@@ -64,7 +62,8 @@ module _ (states links : List ℕ) (count key : ℕ) (linked : Linked states lin
   -- None is left.
   pub seek-end : (at : ℕ) → Seeking states count key at → at ≤ 0 → Finds states count key count
   seek-end at seeking none = record {
-    passed = record { within = omega arith; others = λ j h. seeking .others j (omega arith) h };
+    within = omega arith;
+    others = λ j h. seeking .others j (omega arith) h;
     there = λ h. absurd (omega arith);
   }
 
@@ -114,7 +113,7 @@ module _ (states links : List ℕ) (count key slot : ℕ) (asks : KeepAsks state
     where
       apart : (i j : ℕ) → i < j → j < count + 1 → getD after i 0 ≡ getD after j 0 → ⊥
       apart i j o h e = elim (old-or-new j h) [
-        | inl p ↦ asks .new .passed .others i (omega arith) (sym (stays i (omega arith)) ∙ e ∙ rw (p, here))
+        | inl p ↦ asks .new .others i (omega arith) (sym (stays i (omega arith)) ∙ e ∙ rw (p, here))
         | inr p ↦ linked .apart i j o p (sym (stays i (omega arith)) ∙ e ∙ stays j p)
       ]
 

@@ -1,13 +1,11 @@
 -- What the laws of built tables need to know of a place that the rules give: it is a free run, of as many registers as the kind needs and within the sheet's; or
 -- the least offset, with the kind's stack bytes; or nothing. And of the flags after a step: what was unavailable stays so.
 use Prim.Native.Nat.{ℕ, _+_, _≤_, _<_}
-use mathlib.Core.Path.{_≡_, refl, sym, _∙_}
-use mathlib.Core.Logic.{inl, inr}
-use mathlib.Core.Bool.{Bool, true, false, true≢false}
+use mathlib.Core.Path.{_≡_, refl, _∙_}
+use mathlib.Core.Bool.{Bool, true}
 use mathlib.Core.List.{List}
-use native.Mathlib.Decide.{decLe, decLt}
 use native.Mathlib.Omega.{arith}
-use lib.ListN.{length, getD, length-take}
+use lib.ListN.{length, length-take}
 use lib.Seq.{getD-take}
 use Rattle.convention.specs.declared.Head.{Head}
 use Rattle.convention.specs.declared.SheetKind.{SheetKind}
@@ -15,13 +13,14 @@ use Rattle.convention.specs.declared.ByRules.{ByRules}
 use Rattle.convention.specs.declared.Placement.{Placement}
 use Rattle.convention.specs.declared.Placement.the-variants.{Registers, Stack, Nowhere}
 use Rattle.convention.specs.Sheets.{isClosing}
-use Rattle.convention.specs.Rules.{freeRun, markRun, startsOf, needed, skippedOf, startTaken, stackOffset}
+use Rattle.convention.specs.Rules.{freeRun, startsOf, needed, skippedOf, startTaken, stackOffset}
 use Rattle.convention.specs.Shapes.{stackBytes}
 use Rattle.convention.specs.Rules.{rulesPlace, placeTaken, rulesAfter}
 use Rattle.convention.specs.Promised.{SheetKindRead}
 use Rattle.convention.proofs.Rules.{place-cases}
-use Rattle.convention.proofs.Runs.{either, free-each, free-some, mark-in, mark-out}
-use Rattle.stepping.proofs.Apart.{mark-stays, place-length}
+use Rattle.stepping.specs.Sets.{Among}
+use Rattle.stepping.proofs.Runs.{mark-among}
+use Rattle.stepping.proofs.Apart.{place-length}
 use Rattle.placing.proofs.Starts.{skipped-free}
 use Rattle.placing.proofs.Given.{closed-length, closed-stays}
 
@@ -45,42 +44,19 @@ rules-give h kind s r =
     place-cases (h .width) kind (s .unavailable) (λ at. Gives h kind s (at (s .p .0))) (λ l. (skipped-free _ _ _ l, taken-fits h kind (s .unavailable) r l, refl))
     (λ _. (refl, refl)) (λ _. tt)
 
--- The registers of the first set are all in the second.
-abbrev pub Within : List Bool → List Bool → Type 0
-Within taken taken′ = (r : ℕ) → getD taken r false ≡ true → getD taken′ r false ≡ true
-
--- A run that is free of the second set is free of the first.
-pub free-within : (taken taken′ : List Bool) (first count : ℕ) → Within taken taken′ → freeRun taken′ first count ≡ true
-    → freeRun taken first count ≡ true
-free-within taken taken′ first count h e = elim (either (freeRun taken first count)) [
-  | inl t ↦ t
-  | inr t ↦
-      let r = free-some taken first count t in
-      absurd (true≢false (sym (h (r .0) (r .3)) ∙ free-each taken′ first count e (r .0) (r .1) (r .2)))
-]
-
 -- A place adds the same registers to both sets.
-pub taken-within : (h : Head) (kind : SheetKind) (s : ByRules) (place : Placement) (taken : List Bool) → Gives h kind s place
-    → h .registers ≤ length (s .unavailable) → Within taken (s .unavailable) → Within (placeTaken place taken) (placeTaken place (s .unavailable))
-taken-within h kind s (Registers first count) taken g n within r e = elim (decLe (first .0) r) [
-  | yes l ↦ elim (decLt r (first .0 + count)) [
-    | yes o ↦ mark-in (s .unavailable) (first .0) count r (omega arith) l o
-    | no o ↦ outside (λ _ k. o k)
-  ]
-  | no l ↦ outside (λ k _. l k)
-]
-  where
-    outside : (first .0 ≤ r → r < first .0 + count → ⊥) → getD (markRun (s .unavailable) (first .0) count) r false ≡ true
-    outside o = mark-stays (s .unavailable) (first .0) count r (within r (sym (mark-out taken (first .0) count r o) ∙ e))
-taken-within h kind s (Stack offset count) taken g n within r e = within r e
-taken-within h kind s Nowhere taken g n within r e = within r e
+pub taken-among : (h : Head) (kind : SheetKind) (s : ByRules) (place : Placement) (taken : List Bool) → Gives h kind s place
+    → h .registers ≤ length (s .unavailable) → Among taken (s .unavailable) → Among (placeTaken place taken) (placeTaken place (s .unavailable))
+taken-among h kind s (Registers first count) taken g n within = mark-among taken (s .unavailable) (first .0) count within (omega arith)
+taken-among h kind s (Stack offset count) taken g n within = within
+taken-among h kind s Nowhere taken g n within = within
 
 -- After a step.
 module _ (w : ℕ) (kind : SheetKind) (s : ByRules) where
   -- The registers of its place are unavailable, and those that were.
-  pub after-within : Within (placeTaken (rulesPlace w kind s) (s .unavailable)) (rulesAfter w kind s .unavailable)
+  pub after-among : Among (placeTaken (rulesPlace w kind s) (s .unavailable)) (rulesAfter w kind s .unavailable)
   unfolding rulesAfter
-  after-within r e = closed-stays (isClosing kind) _ _ _ r e
+  after-among r e = closed-stays (isClosing kind) _ _ _ r e
 
   -- There are as many registers as before.
   pub after-length : length (rulesAfter w kind s .unavailable) ≡ length (s .unavailable)

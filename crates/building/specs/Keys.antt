@@ -3,7 +3,7 @@ use Prim.Native.Nat.{ℕ, _+_, _-_, _*_, _/_, _%_, _≤_, _<_}
 use mathlib.Core.Path.{_≡_}
 use mathlib.Core.Bool.{Bool}
 use mathlib.Core.List.{List, [], _∷_, _++_}
-use lib.ListN.{length, getD, take, drop}
+use lib.ListN.{length, take, drop}
 use mir.Val.{boolByte}
 use Rattle.convention.specs.declared.Allocation.{Allocation}
 use Rattle.stepping.specs.Sets.{setOf}
@@ -36,8 +36,3 @@ pub record SetUpTo (number i rest : ℕ) (flags : List Bool) : Type 0 where
   pub within : i ≤ 16
   pub long : length flags ≡ 16
   pub is : take i flags ++ setOf (16 - i) rest ≡ setOf 16 number
-
--- None of the first i keys of so many states is this one.
-pub record Passed (states : List ℕ) (count key i : ℕ) : Type 0 where
-  pub within : i ≤ count
-  pub others : (j : ℕ) → j < i → getD states j 0 ≡ key → ⊥

@@ -4,7 +4,6 @@ use mathlib.Core.Path.{_≡_}
 use mathlib.Core.List.{List}
 use lib.ListN.{length, getD, set, replicate}
 use Rattle.convention.specs.Numbers.{stateLimit}
-use Rattle.building.specs.Keys.{Passed}
 
 -- How many slots there are, and how many links: one for each state, then one for each slot.
 abbrev pub slots : ℕ
@@ -44,7 +43,8 @@ pub record Seeking (states : List ℕ) (count key at : ℕ) : Type 0 where
 
 -- A key looked for: the number of the state that has it, which is their count where none does.
 pub record Finds (states : List ℕ) (count key r : ℕ) : Type 0 where
-  pub passed : Passed states count key r
+  pub within : r ≤ count
+  pub others : (j : ℕ) → j < r → getD states j 0 ≡ key → ⊥
   pub there : r < count → getD states r 0 ≡ key
 
 -- A key that no state has, and room for it.

@@ -6,6 +6,7 @@ mod writer;
 use convention::Allocation;
 use convention::BuildingAnswer;
 use convention::Head;
+use convention::KIND_LIMIT;
 use convention::Offset;
 use convention::Placement;
 use convention::Reading;
@@ -30,16 +31,14 @@ ghost use Rattle.building.specs.Deciding.{DecideAsks, DecidedIs, WriteAs
 ghost use Rattle.building.specs.Links.{Linked};
 ghost use Rattle.building.specs.Holding.{LeadAsks, LeadIs, MeetsLed, PassAsks, Passes, PassKindsAsks, PassesKinds, ExploreAsks};
 use crate::memory::LINK_COUNT;
+use crate::memory::Meeting;
 use crate::memory::Met;
-use crate::memory::Numbered;
 
-// How many bytes a transition takes among the rows, and how many kinds a row has at most.
+// How many bytes a transition takes among the rows.
 const CELL_BYTES: usize = 4;
 
-const MOST_KINDS: usize = 8;
-
 // How many bytes the rows of as many states as a table may have take at most: `rowsMost`.
-pub const ROWS_MOST: usize = CELL_BYTES * MOST_KINDS * STATE_LIMIT;
+pub const ROWS_MOST: usize = CELL_BYTES * KIND_LIMIT * STATE_LIMIT;
 
 // An offset's remainder by A.
 fn residue(modulus: u8, offset: Offset) -> u8
@@ -94,14 +93,14 @@ fn meet_led(
     met: Met,
     states: &mut [u32],
     links: &mut [u16],
-) -> Numbered
+) -> Meeting
     requires { ⌜ Linked (now states) (now links) (met .count) ⌝ }
     ensures { λ r. ⌜ MeetsLed place next (now (states .entry)) (now (links .entry)) met (r .met) (r .number) (now (states .exit)) (now (links .exit)) ⌝ }
 {
     if stepping::place_fault(place) == 0 {
         return memory::meet_state(states, links, met, next);
     }
-    Numbered { met, number: 0 }
+    Meeting { met, number: 0 }
 }
 
 // A kind gone through at a state: what it leads to is met, where it leads on, and its transition stands among the rows, from

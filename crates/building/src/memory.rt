@@ -29,7 +29,7 @@ pub(crate) struct Met {
 }
 
 // A state met: how many were met with it, and its number, which says nothing once they are `over`.
-pub(crate) struct Numbered {
+pub(crate) struct Meeting {
     pub(crate) met: Met,
     pub(crate) number: u16,
 }
@@ -128,7 +128,7 @@ fn keep_state(states: &mut [u32], links: &mut [u16], count: u16, new: u32)
 }
 
 // A state met: kept after the others if it is new and there is room for it.
-pub(crate) fn meet_state(states: &mut [u32], links: &mut [u16], met: Met, a: Allocation) -> Numbered
+pub(crate) fn meet_state(states: &mut [u32], links: &mut [u16], met: Met, a: Allocation) -> Meeting
     requires { ⌜ Linked (now states) (now links) (met .count) ⌝ }
     ensures { λ r. ⌜ Meets (now (states .entry)) (now (links .entry)) met a (r .met) (r .number) (now (states .exit)) (now (links .exit)) ⌝ }
 {
@@ -136,16 +136,16 @@ pub(crate) fn meet_state(states: &mut [u32], links: &mut [u16], met: Met, a: All
     let count = met.count;
     let number = find_state(states, links, count, wanted);
     if number < count {
-        return Numbered { met, number };
+        return Meeting { met, number };
     }
     if count as usize == STATE_LIMIT {
         let full = Met { count, over: true };
-        return Numbered { met: full, number };
+        return Meeting { met: full, number };
     }
     keep_state(states, links, count, wanted);
     let more = Met {
         count: count + 1,
         over: met.over,
     };
-    Numbered { met: more, number }
+    Meeting { met: more, number }
 }

@@ -1,14 +1,13 @@
 -- Why no list of a certified table has a fault, or gives a register twice that was not found: wherever a list leads, what was given is among what may be given there.
-use Prim.Native.Nat.{ℕ, zero, suc, _+_, _/_, _%_, _≤_, _<_}
+use Prim.Native.Nat.{ℕ, zero, suc, _+_, _≤_, _<_}
 use native.Mathlib.Omega.{arith}
-use mathlib.Core.Path.{_≡_, refl, ap, sym, _∙_}
-use mathlib.Core.Logic.{_⊎_, inl, inr}
+use mathlib.Core.Path.{_≡_, refl, sym, _∙_}
+use mathlib.Core.Logic.{inl, inr}
 use mathlib.Core.Bool.{Bool, true, false, not, _&&_, and-eq-true-iff, true≢false, false≢true}
 use mathlib.Core.List.{List, [], _∷_}
-use lib.Dec.{eqb, leb, ltb}
-use lib.Bits.{bitAnd, bitOr, and-step, or-step, and-shr, or-shr}
+use lib.Dec.{eqb}
 use lib.ListN.{length, getD, replicate}
-use borrow.Author.Tests.{eqb-true, ltb-true, ltb-false, leb-true, leb-false}
+use borrow.Author.Tests.{eqb-true}
 use Rattle.convention.specs.declared.Head.{Head}
 use Rattle.convention.specs.declared.Shape.{Shape}
 use Rattle.convention.specs.declared.Table.{Table}
@@ -16,78 +15,25 @@ use Rattle.convention.specs.declared.Transition.{Transition}
 use Rattle.convention.specs.declared.ByTable.{ByTable}
 use Rattle.convention.specs.Numbers.{stateLimit}
 use Rattle.convention.specs.Tables.{tableKind, transition}
-use Rattle.convention.specs.Rules.{freeRun, markRun, noRegisters}
+use Rattle.convention.specs.Rules.{freeRun, noRegisters}
 use Rattle.convention.specs.Lists.{faultFrom, stateFrom, KindsBelow}
 use Rattle.convention.specs.Walked.{tableFault, byTable, walkBegin}
 use Rattle.convention.specs.Promised.{TableRead}
 use Rattle.convention.proofs.Promised.{known-sixteen, known-next}
-use Rattle.convention.proofs.Runs.{either, none-taken, free-some, mark-out, mark-in}
+use Rattle.convention.proofs.Runs.{either, none-taken, free-some}
 use Rattle.convention.proofs.Lists.{holds-along}
 use Rattle.convention.proofs.Walked.{RegistersStep, step-cases, step-next, step-gives, registers-clean}
-use Rattle.stepping.specs.Sets.{setOf}
-use Rattle.stepping.proofs.Sets.{set-none}
+use Rattle.stepping.specs.Sets.{setOf, Among}
+use Rattle.stepping.proofs.Runs.{mark-among}
+use Rattle.stepping.proofs.Sets.{set-none, set-long}
 use Rattle.walking.specs.TableSteps.{givenAfter}
 use Rattle.certifying.specs.declared.Checks.{Checks}
-use Rattle.certifying.specs.Certified.{isReached, Among, ownFault, Gives, TransitionHolds, Certified, NoListFaulty, byItself, NeverTwice, CertificateIs}
+use Rattle.certifying.specs.Certified.{isReached, ownFault, Gives, TransitionHolds, Certified, NoListFaulty, byItself, NeverTwice, CertificateIs}
 
 -- A test that did not fail.
 passed : (r : Bool) → not r ≡ false → r ≡ true
 passed true e = refl
 passed false e = absurd (true≢false e)
-
--- ---- sets
-
--- There is a flag for each register.
-set-long : (n b : ℕ) → length (setOf n b) ≡ n
-unfolding setOf
-set-long zero b = refl
-set-long (suc n) b = ap suc (set-long n (b / 2))
-
--- A number that a mask leaves whole has its registers among the mask's.
-mask-half : (m u : ℕ) → bitAnd m u ≡ u → bitAnd (m / 2) (u / 2) ≡ u / 2
-mask-half m u e = omega (arith, and-step m u)
-
-mask-bit : (m u : ℕ) → bitAnd m u ≡ u → u % 2 ≡ 1 → m % 2 ≡ 1
-mask-bit m u e o = omega (arith, and-step m u)
-
-pub mask-among : (n m u : ℕ) → bitAnd m u ≡ u → Among (setOf n u) (setOf n m)
-unfolding setOf
-mask-among zero m u e r g = g
-mask-among (suc n) m u e zero g = rw (mask-bit m u e (eqb-true (u % 2) 1 g)) refl
-mask-among (suc n) m u e (suc r) g = mask-among n (m / 2) (u / 2) (mask-half m u e) r g
-
--- A set has what either of two has that it was made of by or, and what both have that it was made of by and.
-pub or-left : (n a b : ℕ) → Among (setOf n a) (setOf n (bitOr a b))
-unfolding setOf
-or-left zero a b r g = g
-or-left (suc n) a b zero g = let odd : bitOr a b % 2 ≡ 1 = omega (arith, or-step a b, eqb-true (a % 2) 1 g) in rw odd refl
-or-left (suc n) a b (suc r) g = rw (or-shr a b 1) (or-left n (a / 2) (b / 2) r g)
-
-pub or-right : (n a b : ℕ) → Among (setOf n b) (setOf n (bitOr a b))
-unfolding setOf
-or-right zero a b r g = g
-or-right (suc n) a b zero g = let odd : bitOr a b % 2 ≡ 1 = omega (arith, or-step a b, eqb-true (b % 2) 1 g) in rw odd refl
-or-right (suc n) a b (suc r) g = rw (or-shr a b 1) (or-right n (a / 2) (b / 2) r g)
-
-pub and-both : (n a b r : ℕ) → getD (setOf n a) r false ≡ true → getD (setOf n b) r false ≡ true → getD (setOf n (bitAnd a b)) r false ≡ true
-unfolding setOf
-and-both zero a b r g h = g
-and-both (suc n) a b zero g h = let odd : bitAnd a b % 2 ≡ 1 = omega (arith, and-step a b, eqb-true (a % 2) 1 g, eqb-true (b % 2) 1 h) in rw odd refl
-and-both (suc n) a b (suc r) g h = rw (and-shr a b 1) (and-both n (a / 2) (b / 2) r g h)
-
--- Marking a run keeps one set among another.
-module _ (a b : List Bool) (first count : ℕ) (among : Among a b) where
-  mark-among : first + count ≤ length b → Among (markRun a first count) (markRun b first count)
-  mark-among w r e = go (either (leb first r)) (either (ltb r (first + count)))
-    where
-      out : (first ≤ r → r < first + count → ⊥) → getD (markRun b first count) r false ≡ true
-      out o = mark-out b first count r o ∙ among r (sym (mark-out a first count r o) ∙ e)
-
-      go : (leb first r ≡ true) ⊎ (leb first r ≡ false) → (ltb r (first + count) ≡ true) ⊎ (ltb r (first + count) ≡ false)
-          → getD (markRun b first count) r false ≡ true
-      go (inl h) (inl k) = mark-in b first count r w (leb-true first r h) (ltb-true r (first + count) k)
-      go (inl h) (inr k) = out (λ x y. omega (arith, ltb-false r (first + count) k))
-      go (inr h) k = out (λ x y. omega (arith, leb-false first r h))
 
 -- ---- one step
 

@@ -20,13 +20,12 @@ use Rattle.convention.specs.Walked.{tableFault}
 use Rattle.convention.proofs.Runs.{mark-in}
 use Rattle.table.specs.Within.{InTable}
 use Rattle.stepping.specs.Sets.{setOf}
-use Rattle.stepping.proofs.Sets.{set-none}
+use Rattle.stepping.proofs.Sets.{set-none, mask-among, or-left, or-right, and-both}
 use Rattle.walking.specs.TableSteps.{FaultAsks, givenAfter}
 use Rattle.walking.proofs.Steps.{fault-asks, state-inside}
 use Rattle.certifying.specs.declared.Checks.{Checks}
 use Rattle.certifying.specs.Certified.{isReached, ownFault, TransitionHolds, StateHolds, Certified}
 use Rattle.certifying.specs.Checked.{SetsAsk, StateAsks, Keeps, TransitionIs, RowIs, StateIs, StatesHold}
-use Rattle.certifying.proofs.Certified.{mask-among, or-left, or-right, and-both}
 
 -- ---- what was found
 

@@ -1,4 +1,4 @@
--- A certificate of a table: for each state the set of the registers that may be given there, and a mark that it is reached; and what a table with a certificate is.
+-- The sets of a table, for each state the registers that may be given there and a mark that it is reached; what the check of them finds; and what a certificate says of lists.
 use Prim.Native.Nat.{ℕ, _+_, _≤_, _<_}
 use mathlib.Core.Path.{_≡_}
 use mathlib.Core.Bool.{Bool, true, false}
@@ -15,7 +15,7 @@ use Rattle.convention.specs.declared.ByTable.{ByTable}
 use Rattle.convention.specs.Rules.{noRegisters}
 use Rattle.convention.specs.Lists.{Steps, faultFrom, stateFrom, KindsBelow}
 use Rattle.convention.specs.Walked.{tableFault, byTable, walkBegin}
-use Rattle.stepping.specs.Sets.{setOf}
+use Rattle.stepping.specs.Sets.{setOf, Among}
 use Rattle.walking.specs.TableSteps.{givenAfter}
 use Rattle.certifying.specs.declared.Checks.{Checks}
 
@@ -25,10 +25,6 @@ reachedMark = 65536
 
 abbrev pub isReached : ℕ → Bool
 isReached set = eqb (bitAnd set reachedMark) reachedMark
-
--- Each register of the first set is one of the second.
-abbrev pub Among : List Bool → List Bool → Type 0
-Among a b = (r : ℕ) → getD a r false ≡ true → getD b r false ≡ true
 
 -- The fault of a step by itself, before which nothing was given.
 abbrev pub ownFault : Head → Shape → Transition → ℕ

@@ -10,9 +10,9 @@ use Rattle.convention.specs.declared.Table.{Table}
 use Rattle.convention.specs.declared.Transition.{Transition}
 use Rattle.convention.specs.Numbers.{stateLimit}
 use Rattle.convention.specs.Promised.{TableRead}
-use Rattle.stepping.specs.Sets.{setOf}
+use Rattle.stepping.specs.Sets.{setOf, Among}
 use Rattle.certifying.specs.declared.Checks.{Checks}
-use Rattle.certifying.specs.Certified.{isReached, Among, TransitionHolds, RowHolds, StateHolds}
+use Rattle.certifying.specs.Certified.{isReached, TransitionHolds, RowHolds, StateHolds}
 
 -- A table that was read, and as many sets as a table may have states.
 pub record SetsAsk (table : Table) (t sets : List ℕ) : Type 0 where

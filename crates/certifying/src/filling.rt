@@ -1,7 +1,7 @@
 // Fills the sets of a certificate, from state 0 with nothing given on: what may be given at a state may be given at the next one,
 // and so may what the transition gives. A state whose set grew waits until its transitions were gone through again, first in
 // first out, and once nothing waits the sets are closed; where no transition has a fault by itself they are the least such
-// sets. What they are is checked afterwards, so nothing is promised of them here.
+// sets. What they are is checked afterwards, so nothing is promised of them here but their number.
 use crate::REACHED;
 use convention::STATE_LIMIT;
 use convention::Table;
@@ -107,9 +107,11 @@ fn fill_first(
     fill_row(table, t, sets, ring, rest, state, here)
 }
 
-// Fills the sets of a table that was read from t; they are all 0 before.
+// Fills the sets of a table that was read from t; they are all 0 before. There are as many afterwards, and nothing else is
+// promised.
 pub(crate) fn fill(table: Table, t: &[u8], sets: &mut [u32])
     requires { ⌜ SetsAsk table (now t) (now sets) ⌝ }
+    ensures { λ _. ⌜ length (now (sets .exit)) ≡ stateLimit ⌝ }
 {
     let mut ring = [0u16; STATE_LIMIT];
     sets[0] = REACHED | WAITS;

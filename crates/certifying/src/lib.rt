@@ -1,6 +1,7 @@
-// A certificate of a table: for each state a set that holds every register which may be given there, and a mark that the state is
-// reached. The sets are filled, and then checked transition by transition: only the check is relied on. See
-// specs/Certified.antt for what it finds, and proofs/Certified.antt for what that says of lists.
+// The certificate of a table: whether it is clean, and which registers no list gives twice. It is found by sets: for each state
+// one that holds every register which may be given there, with a mark that the state is reached. They are filled, and then
+// checked transition by transition: only the check is relied on. See specs/Certified.antt for what it finds, and
+// proofs/Certified.antt for what that says of lists.
 mod filling;
 
 use convention::Head;

@@ -4,6 +4,9 @@
 // The most states of a table: the definition `stateLimit`.
 pub const STATE_LIMIT: usize = 200;
 
+// The most kinds of a sheet or a table.
+pub const KIND_LIMIT: usize = 8;
+
 // The most arguments that a call places: `argumentLimit`.
 pub const ARGUMENT_LIMIT: usize = 400;
 
@@ -82,13 +85,13 @@ pub struct Allocation {
     pub remainder: u8,
 }
 
-// How far placing by the rules has come: the set of unavailable registers, and p.
+// How far placing by the rules has come, as the definitions have it: the set of unavailable registers, and p.
 pub struct ByRules {
     pub unavailable: [bool; 16],
     pub p: Offset,
 }
 
-// How far placing by a table has come: the state, the registers given to earlier arguments, and p.
+// How far placing by a table has come, as the definitions have it: the state, the registers given to earlier arguments, and p.
 pub struct ByTable {
     pub state: u16,
     pub given: [bool; 16],

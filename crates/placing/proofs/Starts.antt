@@ -13,8 +13,9 @@ use lib.ListN.{length, getD, take, drop, drop-of-length-le}
 use lib.Seq.{length-take-le, take-suc, drop-cons, getD-take}
 use borrow.Author.Tests.{eq-eqb, ne-eqb}
 use Rattle.convention.specs.Rules.{freeRun, markRun, markRuns, skippedBefore}
-use Rattle.convention.proofs.Runs.{either, free-each, free-some}
-use Rattle.stepping.specs.Sets.{setOf, runBits}
+use Rattle.convention.proofs.Runs.{either}
+use Rattle.stepping.specs.Sets.{setOf, runBits, Among}
+use Rattle.stepping.proofs.Runs.{free-among}
 use Rattle.stepping.proofs.Sets.{free-set, mark-set, or-grouped}
 use Rattle.placing.specs.RulesSteps.{RunsWithin, SearchAsks, SearchIs, Searching}
 
@@ -117,12 +118,10 @@ search-begin taken starts from tries count asks = record {
 }
 
 -- Where what is taken stays so, no fewer are skipped.
-module _ (taken later : List Bool) (stays : (r : ℕ) → getD taken r false ≡ true → getD later r false ≡ true) (count : ℕ) where
+module _ (taken later : List Bool) (stays : Among taken later) (count : ℕ) where
   run-stays : (first : ℕ) → freeRun taken first count ≡ false → freeRun later first count ≡ false
   run-stays first e = elim (either (freeRun later first count)) [
-    | inl t ↦
-        let (r, low, high, hit) = free-some taken first count e in
-        absurd (false≢true (sym (free-each later first count t r low high) ∙ stays r hit))
+    | inl t ↦ absurd (false≢true (sym e ∙ free-among taken later first count stays t))
     | inr t ↦ t
   ]
 

@@ -1,6 +1,7 @@
 // Placing by the rules: one search of a kind's starts, one argument, a list. Document 01, 'Placing by the rules'.
 use convention::ARGUMENT_LIMIT;
 use convention::Head;
+use convention::KIND_LIMIT;
 use convention::Offset;
 use convention::Placement;
 use convention::PlacingAnswer;
@@ -15,16 +16,13 @@ use stepping::Decided;
 use stepping::SHORT_LIST;
 use stepping::Walk;
 ghost use mathlib.Core.Path.{_≡_};
-ghost use lib.ListN.{length, take};
+ghost use lib.ListN.{length};
 ghost use Rattle.convention.specs.Numbers.{argumentLimit};
 ghost use Rattle.convention.specs.Promised.{SheetRead};
 ghost use Rattle.convention.specs.Rules.{byRules, placeByRules, rulesMemory, rulesBegin};
 ghost use Rattle.stepping.specs.Walks.{WalkMakes, DecidedIs, PlacingIs};
 ghost use Rattle.placing.specs.RulesSteps.{asRules, SearchAsks, SearchIs, PlaceAsks, placeFound, AfterAsks, AfterIs, CursorIs};
 ghost use Rattle.placing.specs.RulesSteps.{StepFromAsks, StepFromIs, RulesStepAsks, RulesStepIs, RulesListAsks, DecideAsks, ShortAsks};
-
-// How many kinds a sheet has at most.
-const MOST_KINDS: usize = 8;
 
 // How far placing has come: the unavailable registers, a bit for each, and p.
 pub struct RulesAt {
@@ -180,7 +178,7 @@ fn walk(sheet: Sheet, list: &[u8], records: &mut [u8]) -> Walk
     ensures { λ r. ⌜ WalkMakes (byRules sheet) (now (list .entry)) (now (records .entry)) (r .fault) (r .stop) (r .p) (now (records .exit)) ⌝ }
 {
     let head = sheet.head;
-    let mut from = [0u8; MOST_KINDS];
+    let mut from = [0u8; KIND_LIMIT];
     let mut s = begin();
     let mut i = 0;
     while i < list.len() {

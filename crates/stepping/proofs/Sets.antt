@@ -6,15 +6,15 @@ use mathlib.Core.Path.{_≡_, refl, ap, ap₂, sym, _∙_}
 use mathlib.Core.Bool.{Bool, true, false, true≢false, false≢true}
 use mathlib.Core.List.{List, [], _∷_}
 use mathlib.Core.Logic.{_⊎_, inl, inr}
-use borrow.Author.Tests.{ne-eqb}
+use borrow.Author.Tests.{eqb-true, ne-eqb}
 use lib.Dec.{eqb}
 use lib.Pow.{pow-pos, ones-lt, shl-exact}
-use lib.Bits.{bitAnd, bitOr, and-step, or-step, and-zero-r, or-zero-r, or-shr, shifted-half, shifted-even}
-use lib.ListN.{getD, set, replicate}
+use lib.Bits.{bitAnd, bitOr, and-step, or-step, and-zero-r, or-zero-r, or-comm, and-shr, or-shr, shifted-half, shifted-even}
+use lib.ListN.{length, getD, set, replicate}
 use lib.Seq.{sets}
 use Rattle.convention.specs.Rules.{freeRun, markRun}
 use Rattle.convention.proofs.Runs.{either}
-use Rattle.stepping.specs.Sets.{setOf, runBits}
+use Rattle.stepping.specs.Sets.{setOf, runBits, Among}
 
 -- The last bit of a run that begins at the first register, and those before it.
 ones-half : (n : ℕ) → runBits 0 (suc n) / 2 ≡ runBits 0 n
@@ -144,6 +144,41 @@ or-grouped (suc n) a b c =
     let others : setOf n (bitOr (bitOr a b) c / 2) ≡ setOf n (bitOr a (bitOr b c) / 2)
     = rw (or-half (bitOr a b) c, or-half a b, or-half a (bitOr b c), or-half b c) (or-grouped n (a / 2) (b / 2) (c / 2)) in
     rw (last, others)
+
+-- There is a flag for each register.
+pub set-long : (n b : ℕ) → length (setOf n b) ≡ n
+unfolding setOf
+set-long zero b = refl
+set-long (suc n) b = ap suc (set-long n (b / 2))
+
+-- A number that a mask leaves whole has its registers among the mask's.
+mask-half : (m u : ℕ) → bitAnd m u ≡ u → bitAnd (m / 2) (u / 2) ≡ u / 2
+mask-half m u e = omega (arith, and-step m u)
+
+mask-bit : (m u : ℕ) → bitAnd m u ≡ u → u % 2 ≡ 1 → m % 2 ≡ 1
+mask-bit m u e o = omega (arith, and-step m u)
+
+pub mask-among : (n m u : ℕ) → bitAnd m u ≡ u → Among (setOf n u) (setOf n m)
+unfolding setOf
+mask-among zero m u e r g = g
+mask-among (suc n) m u e zero g = rw (mask-bit m u e (eqb-true (u % 2) 1 g)) refl
+mask-among (suc n) m u e (suc r) g = mask-among n (m / 2) (u / 2) (mask-half m u e) r g
+
+-- A set has what either of two has that it was made of by or, and what both have that it was made of by and.
+pub or-left : (n a b : ℕ) → Among (setOf n a) (setOf n (bitOr a b))
+unfolding setOf
+or-left zero a b r g = g
+or-left (suc n) a b zero g = let odd : bitOr a b % 2 ≡ 1 = omega (arith, or-step a b, eqb-true (a % 2) 1 g) in rw odd refl
+or-left (suc n) a b (suc r) g = rw (or-half a b) (or-left n (a / 2) (b / 2) r g)
+
+pub or-right : (n a b : ℕ) → Among (setOf n b) (setOf n (bitOr a b))
+or-right n a b = rw (or-comm a b) (or-left n b a)
+
+pub and-both : (n a b r : ℕ) → getD (setOf n a) r false ≡ true → getD (setOf n b) r false ≡ true → getD (setOf n (bitAnd a b)) r false ≡ true
+unfolding setOf
+and-both zero a b r g h = g
+and-both (suc n) a b zero g h = let odd : bitAnd a b % 2 ≡ 1 = omega (arith, and-step a b, eqb-true (a % 2) 1 g, eqb-true (b % 2) 1 h) in rw odd refl
+and-both (suc n) a b (suc r) g h = rw (and-shr a b 1) (and-both n (a / 2) (b / 2) r g h)
 
 -- The number 0 is no register.
 pub set-none : (n : ℕ) → setOf n 0 ≡ replicate n false

@@ -9,22 +9,21 @@ use Rattle.convention.specs.declared.Transition.{Transition}
 use Rattle.convention.specs.declared.Offset.{Offset}
 use Rattle.convention.specs.Lists.{recordLength}
 use Rattle.convention.specs.Tables.{tableKind, transition}
-use Rattle.convention.specs.Walked.{byTable, tablePlace}
+use Rattle.convention.specs.Walked.{byTable, tablePlace, walkBegin}
 use Rattle.convention.proofs.Lists.{known}
 use Rattle.convention.proofs.Walked.{step-next}
 use Rattle.table.specs.Within.{InTable}
 use Rattle.stepping.specs.Walks.{WalkMakes}
-use Rattle.stepping.proofs.Sets.{set-none}
 use Rattle.stepping.proofs.Walks.{make-begin, make-room, make-on, make-hit, make-end}
 use Rattle.walking.specs.declared.TableAt.{TableAt}
-use Rattle.walking.specs.TableSteps.{asTable, atBegin, ArgumentAsks, ArgumentIs, WalkAsks, TableStanding}
+use Rattle.walking.specs.TableSteps.{asTable, ArgumentAsks, ArgumentIs, WalkAsks, TableStanding}
 use Rattle.walking.proofs.Steps.{reach, fault-asks, place-asks, state-inside}
 
 module _ (table : Table) (t ks before : List ℕ) (asks : WalkAsks table t ks before) where
   -- Before the first argument.
-  pub standing-begin : (s : TableAt) → s ≡ atBegin → TableStanding table t ks before (asTable s) 0 before
+  pub standing-begin : (s : TableAt) → asTable s ≡ walkBegin → TableStanding table t ks before (asTable s) 0 before
   standing-begin s e =
-      rw (e, set-none 16) (record { makes = make-begin (byTable table t) ks before; state = asks .read .some; reach = omega arith })
+      rw e (record { makes = make-begin (byTable table t) ks before; state = asks .read .some; reach = omega arith })
 
   module _ (s : TableAt) (i : ℕ) (records : List ℕ) (standing : TableStanding table t ks before (asTable s) i records) where
     module _ (h : i < length ks) where

@@ -37,12 +37,9 @@ pub record PlaceAsks (h : Head) (x : Transition) (p : ℕ) : Type 0 where
   pub modulus : isModulus (h .modulus) ≡ true
   pub room : p + anyStepMost < 2 ^ 32
 
--- The definition's state that the code's stands for, its bits as flags; and the first.
+-- The definition's state that the code's stands for, its bits as flags.
 abbrev pub asTable : TableAt → ByTable
 asTable s = record { state = s .state; given = setOf 16 (s .given); p = s .p }
-
-abbrev pub atBegin : TableAt
-atBegin = record { state = 0; given = 0; p = record { 0 = 0 } }
 
 -- A transition to be taken for a kind: what its fault asks, and what its place does, with room for its record from byte `at` on.
 pub record ArgumentAsks (h : Head) (shape : Shape) (x : Transition) (s : ByTable) (records : List ℕ) (at : ℕ) : Type 0 where

@@ -25,7 +25,7 @@ ghost use Rattle.convention.specs.Lists.{faultFrom};
 ghost use Rattle.convention.specs.Walked.{registersFault, stackFault, tableFault, tablePlace, byTable, placeByTable, tableMemory, walkBegin};
 ghost use Rattle.stepping.specs.Sets.{setOf};
 ghost use Rattle.stepping.specs.Walks.{WalkMakes, DecidedIs, PlacingIs};
-ghost use Rattle.walking.specs.TableSteps.{FaultAsks, PlaceAsks, asTable, atBegin, ArgumentAsks, ArgumentIs, KnownAsks, WalkAsks, DecideAsks, ShortAsks, givenAfter};
+ghost use Rattle.walking.specs.TableSteps.{FaultAsks, PlaceAsks, asTable, ArgumentAsks, ArgumentIs, KnownAsks, WalkAsks, DecideAsks, ShortAsks, givenAfter};
 
 // Faults 2 and 3 of a step that gives registers.
 fn registers_fault(head: Head, shape: Shape, x: Transition, given: u32) -> u8
@@ -96,7 +96,7 @@ struct TableAt {
 
 // State 0, no register given, and p = 0.
 fn begin() -> TableAt
-    ensures { λ r. ⌜ r ≡ atBegin ⌝ }
+    ensures { λ r. ⌜ asTable r ≡ walkBegin ⌝ }
 {
     TableAt {
         state: 0,
