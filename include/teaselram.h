@@ -80,7 +80,7 @@ enum teaselram_refusal {
 enum teaselram_fault {
     TEASELRAM_NO_PLACE = 1,       /* there is no place */
     TEASELRAM_GIVEN_TWICE = 2,    /* a register of the run was given to an earlier argument */
-    TEASELRAM_WRONG_ROOM = 3,     /* registers too few for the size, or stack bytes other than the size */
+    TEASELRAM_WRONG_ROOM = 3,     /* more or fewer registers than the size needs, or stack bytes other than the size */
     TEASELRAM_WRONG_ALIGNMENT = 4 /* a stack residue that is no multiple of the alignment */
 };
 

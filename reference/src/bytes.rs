@@ -14,6 +14,11 @@ pub struct Head {
 }
 
 impl Head {
+    /// 01, "Bytes of a sheet and of a table": k, the registers that a kind of this size needs.
+    pub(crate) fn needed(&self, size: u8) -> u8 {
+        size.div_ceil(self.width)
+    }
+
     /// Whether the registers first to first + count - 1 end at most at n.
     pub(crate) fn holds_run(&self, first: u8, count: u8) -> bool {
         u16::from(first) + u16::from(count) <= u16::from(self.registers)

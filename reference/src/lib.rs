@@ -1,6 +1,8 @@
-//! The second program: an interpreter of document 01, written from that document alone.
+//! The second program: an interpreter of document 01 with what document 02 replaces in it, written
+//! from these documents alone.
 //!
-//! One module stands for each part of 01; every public item names its section there.
+//! One module stands for each part of 01; every public item names its section there. What 02
+//! replaces names the request.
 
 mod build;
 mod bytes;

@@ -18,7 +18,7 @@ pub(crate) struct Allocation {
 impl Allocation {
     /// Places one argument; where there is no place, nothing changes.
     pub(crate) fn step(&mut self, head: &Head, kind: &SheetKind) -> Option<Placement> {
-        let count = kind.needed(head);
+        let count = head.needed(kind.size);
         let taken = kind
             .starts
             .iter()

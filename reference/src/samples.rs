@@ -13,7 +13,8 @@ pub const S: [u8; 30] = [
 /// What a stack modulus or an alignment may be.
 pub const ALIGNMENTS: [u8; 5] = [1, 2, 4, 8, 16];
 
-const WIDTHS: [u8; 4] = [1, 2, 4, 8];
+/// What a register width may be.
+pub const WIDTHS: [u8; 4] = [1, 2, 4, 8];
 
 /// 01, "Examples to settle the reading": sheet S with its kind double changed.
 pub fn s_with_double(change: impl FnOnce(&mut SheetKind)) -> Vec<u8> {
@@ -158,7 +159,7 @@ fn sheet_kind(random: &mut Xorshift, head: &Head) -> SheetKind {
         flags,
         starts: Vec::new(),
     };
-    if let Some(last) = head.registers.checked_sub(kind.needed(head)) {
+    if let Some(last) = head.registers.checked_sub(head.needed(size)) {
         let longest = random.pick(&[0, 1, 4, 16]);
         kind.starts = (0..random.within(0..=longest))
             .map(|_| random.within(0..=last))
@@ -199,7 +200,7 @@ fn transition(
     care: usize,
 ) -> Transition {
     let next = random.within(0..=states - 1);
-    let needed = kind.size.div_ceil(head.width);
+    let needed = head.needed(kind.size);
     if random.one_in(care) {
         return careless(random, head, kind, next);
     }

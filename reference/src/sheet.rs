@@ -23,11 +23,6 @@ pub struct Sheet {
 }
 
 impl SheetKind {
-    /// 01, "Bytes of a sheet and of a table": k, the registers that a kind needs.
-    pub fn needed(&self, head: &Head) -> u8 {
-        self.size.div_ceil(head.width)
-    }
-
     pub(crate) fn may_use_stack(&self) -> bool {
         self.flags & MAY_USE_STACK != 0
     }
@@ -75,7 +70,7 @@ fn read_kind(cursor: &mut Cursor, head: &Head) -> Result<SheetKind, Refusal> {
         flags,
         starts: Vec::new(),
     };
-    let needed = kind.needed(head);
+    let needed = head.needed(size);
     for _ in 0..count {
         let start = cursor.field(Refusal::KIND, |start| head.holds_run(start, needed))?;
         kind.starts.push(start);

@@ -1,4 +1,4 @@
-//! 01, "Placing by a table".
+//! 01, "Placing by a table", with fault 3 as 02, W-202, replaces it.
 
 use crate::bytes::Head;
 use crate::placement::{admit, records, Placed, Placement};
@@ -6,6 +6,7 @@ use crate::refusal::Refusal;
 use crate::table::{read_table, Table, TableKind, Transition, NO_PLACE, REGISTERS, STACK};
 
 /// The first fault that applies to a step, where `given` are the registers of earlier arguments.
+/// 02, W-202: fault 3 is given for any register count other than the size over w, rounded up.
 pub(crate) fn fault(
     head: &Head,
     kind: &TableKind,
@@ -13,11 +14,10 @@ pub(crate) fn fault(
     given: u32,
 ) -> Option<u8> {
     let Transition { form, a, b, .. } = *transition;
-    let too_narrow = || u16::from(b) * u16::from(head.width) < u16::from(kind.size);
     let applies = [
         form == NO_PLACE,
         transition.registers() & given != 0,
-        form == REGISTERS && too_narrow() || form == STACK && b != kind.size,
+        form == REGISTERS && b != head.needed(kind.size) || form == STACK && b != kind.size,
         form == STACK && a % kind.alignment != 0,
     ];
     (1..)

@@ -1,4 +1,4 @@
-//! 01, "Examples to settle the reading" and "Misreadings we have met".
+//! 01, "Examples to settle the reading" and "Misreadings we have met"; 02, W-202.
 
 use reference::samples::{hex, one_step_table, private_registers, s_with_double, S};
 use reference::{
@@ -63,6 +63,25 @@ fn table(head: [u8; 4], kinds: &[[u8; 2]], rows: &[&[[u8; 4]]]) -> Vec<u8> {
             .collect(),
     };
     table.bytes()
+}
+
+/// Asserts that the judge answers this fault and list, and that placing the list by the table has
+/// this fault at the last argument.
+fn assert_faulty(table: &[u8], number: u8, list: &[u8]) {
+    assert_eq!(judge(table, 4), Ok(fault(number, list)));
+    let refusal = Refusal {
+        number: 10,
+        position: list.len() - 1,
+        fault: number,
+    };
+    assert_eq!(place_by_table(table, list, ROOM), Err(refusal));
+}
+
+/// 02, W-202: a table for doubles and registers of four bytes, by which the first double is given
+/// `count` registers and every later one goes to the stack.
+fn first_double_in(count: u8) -> Vec<u8> {
+    let rows: [&[[u8; 4]]; 2] = [&[[1, 0, count, 1]], &[[2, 0, 8, 1]]];
+    table([4, 4, 8, 1], &[[8, 8]], &rows)
 }
 
 #[test]
@@ -321,23 +340,49 @@ fn registers_given_once_each() {
 }
 
 #[test]
-fn empty_run_is_too_narrow() {
-    assert_judged([1, 1, 0, 0], fault(3, &[0]));
+fn double_in_three_registers() {
+    assert_faulty(&first_double_in(3), 3, &[0]);
 }
 
 #[test]
-fn given_register_comes_before_too_narrow() {
-    // The one register is too narrow for kind 1, and it was given to kind 0 before.
-    let table = table(
-        [1, 4, 4, 2],
-        &[[4, 4], [8, 4]],
-        &[&[[1, 0, 1, 1], [2, 0, 8, 0]], &[[2, 0, 4, 1], [1, 0, 1, 1]]],
-    );
-    assert_eq!(judge(&table, 4), Ok(fault(2, &[0, 1])));
-    let refusal = Refusal {
-        number: 10,
-        position: 1,
-        fault: 2,
+fn double_in_two_registers() {
+    let table = first_double_in(2);
+    assert_eq!(judge(&table, 4), Ok(Verdict::Clean));
+    let placed = Placed {
+        records: [registers(0, 2), stack(0, 8)].concat(),
+        count: 2,
+        p: 8,
     };
-    assert_eq!(place_by_table(&table, &[0, 1], ROOM), Err(refusal));
+    assert_eq!(place_by_table(&table, &[0, 0], ROOM), Ok(placed));
+}
+
+#[test]
+fn double_in_one_register() {
+    assert_faulty(&first_double_in(1), 3, &[0]);
+}
+
+#[test]
+fn empty_run_is_what_no_size_needs() {
+    assert_judged([1, 1, 0, 0], fault(3, &[0]));
+    assert_faulty(&first_double_in(0), 3, &[0]);
+}
+
+#[test]
+fn given_register_comes_before_a_wrong_count() {
+    // Kind 0 is given register 3. Then kind 1, which needs two registers, is given one or three, up
+    // to that register or just short of it. Where it is three, only the one too many was given.
+    let after = |first, count| {
+        table(
+            [4, 4, 4, 2],
+            &[[4, 4], [8, 4]],
+            &[
+                &[[1, 3, 1, 1], [2, 0, 8, 0]],
+                &[[2, 0, 4, 1], [1, first, count, 1]],
+            ],
+        )
+    };
+    for count in [1, 3] {
+        assert_faulty(&after(4 - count, count), 2, &[0, 1]);
+        assert_faulty(&after(3 - count, count), 3, &[0, 1]);
+    }
 }

@@ -1,4 +1,4 @@
-//! 01, "Placing by a table": the judge against a search of all lists.
+//! 01, "Placing by a table", and 02, W-202: the judge against a search of all lists.
 
 use reference::samples::{self, list, Most, Xorshift};
 use reference::{judge, place_by_table, Refusal, Table, Verdict};
@@ -11,13 +11,14 @@ const MOST: Most = Most {
 const TABLES: usize = 6000;
 const ROOM: usize = 6 * 400;
 
-/// The first faulty step of a list with its fault, by the words of 01 and with lists for sets.
+/// The first faulty step of a list with its fault, by the words of 01 and 02 and with lists for sets.
 fn first_fault(table: &Table, list: &[u8]) -> Option<(usize, u8)> {
     let mut state = 0;
     let mut given: Vec<u8> = Vec::new();
     for (position, &kind) in list.iter().enumerate() {
         let kind = usize::from(kind);
         let (step, size) = (&table.rows[state][kind], table.kinds[kind].size);
+        let needed = (0..).find(|k| k * table.head.width >= size).unwrap();
         let run = if step.form == 1 {
             step.a..step.a + step.b
         } else {
@@ -26,7 +27,7 @@ fn first_fault(table: &Table, list: &[u8]) -> Option<(usize, u8)> {
         let fault = match step.form {
             0 => 1,
             1 if run.clone().any(|register| given.contains(&register)) => 2,
-            1 if step.b * table.head.width < size => 3,
+            1 if step.b != needed => 3,
             2 if step.b != size => 3,
             2 if step.a % table.kinds[kind].alignment != 0 => 4,
             _ => 0,

@@ -1,4 +1,5 @@
-//! Tables made for the judge: every kind has one byte, w = A = 1, so that a step has no fault but 1 and 2 unless made so.
+//! Tables made for the judge: every kind has one byte, w = A = 1, so that a step to the stack or in one register has no fault
+//! but 2 unless made so. `sized` makes the kinds larger, for runs of more registers.
 
 use reference::{samples::Xorshift, Head, Table, TableKind, Transition};
 
@@ -39,6 +40,18 @@ pub fn table(registers: u8, rows: Vec<Vec<Transition>>) -> Table {
         head,
         rows,
     }
+}
+
+/// The same table with kinds of these sizes, and with as many bytes in each kind's steps to the stack.
+pub fn sized(mut table: Table, sizes: &[u8]) -> Table {
+    for (kind, &size) in sizes.iter().enumerate() {
+        table.kinds[kind].size = size;
+        let steps = table.rows.iter_mut().map(|row| &mut row[kind]);
+        steps
+            .filter(|step| step.form == 2)
+            .for_each(|step| step.b = size);
+    }
+    table
 }
 
 /// The table whose states stand in a ring: from each, the kind that `path` has for it goes on to the next by `step`, and

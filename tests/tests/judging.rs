@@ -1,8 +1,9 @@
-//! Judging tables: the examples of document 01, tables made to be hard, and seeded ones, the library beside the second program.
+//! Judging tables: the examples of documents 01 and 02, every count of registers, tables made to be hard, and seeded ones, the
+//! library beside the second program.
 
-use comparison::tables::{in_registers, on_stack, path, ring, rivals, table};
+use comparison::tables::{in_registers, on_stack, path, ring, rivals, sized, table};
 use comparison::{compare, damage, refused, rounds, Numbers, MOST};
-use reference::samples::{self, one_step_table, Most, Xorshift, S};
+use reference::samples::{self, one_step_table, Most, Xorshift, S, WIDTHS};
 use reference::{Refusal, Table, Transition, Verdict};
 use teaselram::{LONGEST_LIST, LONGEST_TABLE};
 
@@ -34,25 +35,53 @@ fn assert_shown(table: &[u8], fault: u8, list: &[u8]) {
     assert!(teaselram::place_by_table(table, &list[..last], &mut out).is_ok());
 }
 
-/// How often each verdict was given, and the longest list.
+/// Where a count of registers stands beside the size over w, rounded up, of 02's W-202: 0 is below it, 1 at it, 2 above it.
+fn standing(count: u8, size: u8, width: u8) -> usize {
+    let needed = (1..).find(|needed| needed * width >= size);
+    let needed = needed.expect("some multiple of w is no less than the size");
+    usize::from(count >= needed) + usize::from(count > needed)
+}
+
+/// How often each verdict was given, and fault 3 of registers for each standing of their count; and the longest list.
 #[derive(Default)]
 struct Verdicts {
     clean: usize,
     faults: [usize; 5],
+    counts: [usize; 3],
     longest: usize,
 }
 
 impl Verdicts {
-    fn note(&mut self, table: &[u8], verdict: &Verdict) {
-        match verdict {
-            Verdict::Clean => self.clean += 1,
-            Verdict::Fault { fault, list } => {
-                assert_shown(table, *fault, list);
-                self.faults[usize::from(*fault)] += 1;
-                self.longest = self.longest.max(list.len());
-            }
+    /// Judges a table and counts the verdict.
+    fn note(&mut self, table: &Table) {
+        let Verdict::Fault { fault, list } = judge(table) else {
+            self.clean += 1;
+            return;
+        };
+        assert_shown(&table.bytes(), fault, &list);
+        self.faults[usize::from(fault)] += 1;
+        self.longest = self.longest.max(list.len());
+        let (step, size) = last_step(table, &list);
+        if fault == 3 && step.form == 1 {
+            self.counts[standing(step.b, size, table.head.width)] += 1;
         }
     }
+}
+
+/// The transition at the end of a list, and the size of its kind.
+fn last_step<'a>(table: &'a Table, list: &[u8]) -> (&'a Transition, u8) {
+    let step = |state: u8, kind: u8| &table.rows[usize::from(state)][usize::from(kind)];
+    let (&last, before) = list.split_last().expect("a faulty list is not empty");
+    let state = before.iter().fold(0, |state, &kind| step(state, kind).next);
+    (step(state, last), table.kinds[usize::from(last)].size)
+}
+
+/// The table whose one kind is first given `count` of sixteen registers, and goes to the stack from then on.
+fn once_in_registers(count: u8, size: u8, width: u8) -> Table {
+    let rows = vec![vec![in_registers(0, count, 1)], vec![on_stack(1)]];
+    let mut table = sized(table(16, rows), &[size]);
+    table.head.width = width;
+    table
 }
 
 #[test]
@@ -65,6 +94,40 @@ fn p8_to_p12() {
     assert_eq!(judge([2, 2, 3, 0]), fault(3, [0]));
     assert_eq!(judge([0, 0, 0, 0]), fault(1, [0]));
     assert_eq!(judge([1, 0, 0, 0]), fault(3, [0]), "no register is too few");
+}
+
+/// 02, W-202: a double needs two registers of four bytes.
+#[test]
+fn a_double_in_three_registers() {
+    let judge = |count| judge(&once_in_registers(count, 8, 4));
+    assert_eq!(judge(3), fault(3, [0]));
+    assert_eq!(judge(2), Verdict::Clean);
+    assert_eq!(judge(1), fault(3, [0]));
+    assert_eq!(judge(0), fault(3, [0]));
+}
+
+/// For every width and size, a table with each count is judged, and lists of 1 and of 33 arguments are placed by it, as the
+/// library makes the records of up to 32 arguments in other memory than those of more.
+#[test]
+fn every_count_of_registers() {
+    for width in WIDTHS {
+        let mut reached = [0; 3];
+        for (size, count) in (1..=64).flat_map(|size| (0..=16).map(move |count| (size, count))) {
+            let table = once_in_registers(count, size, width);
+            let standing = standing(count, size, width);
+            let (verdict, refusal) = match standing {
+                1 => (Verdict::Clean, None),
+                _ => (fault(3, [0]), Some(refused(10, 0, 3))),
+            };
+            assert_eq!(judge(&table), verdict, "{table:?}");
+            for list in [&[0; 1][..], &[0; 33]] {
+                let placed = compare::place_by_table(&table.bytes(), list, 6 * list.len());
+                assert_eq!(placed.err(), refusal, "{table:?}");
+            }
+            reached[standing] += 1;
+        }
+        assert!(reached.iter().all(|&count| count > 0), "{reached:?}");
+    }
 }
 
 #[test]
@@ -92,14 +155,9 @@ fn a_register_on_two_rows_far_apart() {
 #[test]
 fn runs_that_overlap_in_one_register() {
     let rows = |second| vec![vec![in_registers(0, 4, 1)], vec![second], vec![on_stack(2)]];
-    assert_eq!(
-        judge(&table(7, rows(in_registers(3, 4, 2)))),
-        fault(2, [0, 0])
-    );
-    assert_eq!(
-        judge(&table(7, rows(in_registers(4, 3, 2)))),
-        Verdict::Clean
-    );
+    let judge = |second| judge(&sized(table(8, rows(second)), &[4]));
+    assert_eq!(judge(in_registers(3, 4, 2)), fault(2, [0, 0]));
+    assert_eq!(judge(in_registers(4, 4, 2)), Verdict::Clean);
 }
 
 #[test]
@@ -138,18 +196,21 @@ fn a_row_after_a_fault_is_not_reached() {
 
 #[test]
 fn the_first_fault_of_a_step() {
-    let mut table = table(
-        2,
-        vec![vec![in_registers(0, 2, 1)], vec![in_registers(1, 1, 1)]],
-    );
-    table.kinds[0].size = 2;
-    assert_eq!(judge(&table), fault(2, [0, 0]), "2 before 3");
-    table.rows[1][0].b = 0;
-    assert_eq!(
-        judge(&table),
-        fault(3, [0, 0]),
-        "an empty run was not given"
-    );
+    // The kind needs two registers, and the last two of five are given before.
+    let faults = [
+        (3, 1, 2, "2 before 3 by too few"),
+        (2, 1, 3, "too few"),
+        (1, 3, 2, "2 before 3 by the one too many"),
+        (0, 3, 3, "too many"),
+        (3, 0, 3, "an empty run was not given"),
+    ];
+    for (first, count, number, why) in faults {
+        let second = in_registers(first, count, 1);
+        let table = table(5, vec![vec![in_registers(3, 2, 1)], vec![second]]);
+        let table = sized(table, &[2]);
+        assert_eq!(judge(&table), fault(number, [0, 0]), "{why}");
+        assert_shown(&table.bytes(), number, &[0, 0]);
+    }
 }
 
 #[test]
@@ -264,34 +325,37 @@ fn seeded_tables_are_judged_alike() {
     );
     for most in [few, few, MOST, many] {
         for _ in 0..rounds(3000) {
-            let table = samples::table(&mut random, most);
-            verdicts.note(&table.bytes(), &judge(&table));
+            verdicts.note(&samples::table(&mut random, most));
         }
     }
     let Verdicts {
         clean,
         faults,
+        counts: [below, at, above],
         longest,
     } = verdicts;
     assert!(clean > 200, "{clean} clean");
     assert!(faults[1..].iter().all(|&count| count > 200), "{faults:?}");
+    assert!(below > 100 && above > 100, "{below} below, {above} above");
+    assert_eq!(at, 0, "fault 3 with the right count");
     assert!(longest > 4, "at most {longest} arguments");
 }
 
 /// A long way round with a few runs of registers on it, and ways back by the stack.
 fn winding(random: &mut Xorshift) -> Table {
     let (kinds, registers) = (random.within(1..=4), random.within(1..=16));
+    let sizes: Vec<_> = (0..kinds).map(|_| random.within(1..=registers)).collect();
     let states = 2 + random.below(199);
     let path = path(random, kinds, states);
-    let mut table = ring(registers, kinds, &path, |_, next| on_stack(next));
+    let table = ring(registers, kinds, &path, |_, next| on_stack(next));
+    let mut table = sized(table, &sizes);
     for (state, row) in table.rows.iter_mut().enumerate() {
-        for (kind, transition) in (0..).zip(row) {
+        for ((kind, transition), &size) in (0..).zip(row).zip(&sizes) {
             if kind != path[state] {
                 transition.next = random.below(state + 1) as u8;
             } else if random.one_in(40) {
-                let first = random.within(0..=registers - 1);
-                let count = random.within(1..=registers - first);
-                *transition = in_registers(first, count, transition.next);
+                let first = random.within(0..=registers - size);
+                *transition = in_registers(first, size, transition.next);
             }
         }
     }
@@ -303,8 +367,7 @@ fn winding_tables_are_judged_alike() {
     let mut random = Xorshift::new(37);
     let mut verdicts = Verdicts::default();
     for _ in 0..rounds(500) {
-        let table = winding(&mut random);
-        verdicts.note(&table.bytes(), &judge(&table));
+        verdicts.note(&winding(&mut random));
     }
     let (clean, faulty) = (verdicts.clean, verdicts.faults[2]);
     assert!(clean > 20 && faulty > 200, "{clean} clean, {faulty} faulty");
@@ -331,6 +394,7 @@ fn altered(random: &mut Xorshift) -> Option<Table> {
     match random.below(3) {
         0 => transition.next = random.below(states) as u8,
         1 if transition.form == 1 => transition.a = random.within(0..=registers - transition.b),
+        _ if transition.form == 1 => transition.b = random.within(0..=registers - transition.a),
         _ if transition.form == 2 => transition.b = transition.b.wrapping_add(1),
         _ => return None,
     }
@@ -343,16 +407,19 @@ fn built_tables_with_one_transition_altered() {
     let mut verdicts = Verdicts::default();
     for _ in 0..rounds(6000) {
         if let Some(table) = altered(&mut random) {
-            verdicts.note(&table.bytes(), &judge(&table));
+            verdicts.note(&table);
         }
     }
     let Verdicts {
         clean,
         faults,
+        counts: [below, at, above],
         longest,
     } = verdicts;
     assert!(clean > 100, "{clean} clean");
     assert!(faults[1..4].iter().all(|&count| count > 100), "{faults:?}");
+    assert!(below > 20 && above > 20, "{below} below, {above} above");
+    assert_eq!(at, 0, "fault 3 with the right count");
     assert!(longest > 8, "at most {longest} arguments");
 }
 

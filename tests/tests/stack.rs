@@ -5,7 +5,7 @@ use std::collections::BTreeMap;
 use std::fs;
 
 use comparison::machine::{run, PROVED, WARNINGS};
-use comparison::tables::{in_registers, on_stack, ring, rivals};
+use comparison::tables::{in_registers, on_stack, ring, rivals, sized};
 use comparison::{rounds, MOST};
 use reference::samples::{self, Xorshift};
 use reference::{Head, Sheet, SheetKind, Table, Verdict};
@@ -37,10 +37,11 @@ fn rising(flags: [u8; 8]) -> Vec<u8> {
 /// The longest table: its kinds in turn go round its states, and the last state is faulty the second time.
 fn twice_round() -> Table {
     let path: Vec<_> = (0..200).map(|state| state % 8).collect();
-    ring(16, 8, &path, |state, next| match state {
+    let table = ring(16, 8, &path, |state, next| match state {
         199 => in_registers(0, 16, next),
         _ => on_stack(next),
-    })
+    });
+    sized(table, &[16; 8])
 }
 
 /// The sheets and tables with which every call is made: first sheets with their own tables, some of which close, with

@@ -16,6 +16,14 @@ pub struct Head {
     pub kinds: u8,
 }
 
+impl Head {
+    /// The registers that a size of at least 1 needs: the size over w, rounded up.
+    pub fn needed(&self, size: u8) -> u8 {
+        // A width is a power of two.
+        ((size - 1) >> self.width.trailing_zeros()) + 1
+    }
+}
+
 impl<'a> Fields<'a> {
     pub fn open(bytes: &'a [u8]) -> Result<Self, Refusal> {
         match bytes {

@@ -73,7 +73,7 @@ impl Kind {
         let (size, alignment) = fields.shape(head)?;
         let flags = fields.byte(5, |flags| flags <= 3)?;
         let tries = fields.byte(5, |tries| tries <= 16)?;
-        let needed = size.div_ceil(head.width);
+        let needed = head.needed(size);
         let mut kind = Kind {
             size,
             alignment,

@@ -6,11 +6,12 @@ use super::{
 };
 use crate::{Placed, Refusal};
 
-/// A kind's size and alignment.
+/// A kind's size and alignment, and the registers that its size needs.
 #[derive(Clone, Copy, Default)]
 pub struct Kind {
     size: u8,
     alignment: u8,
+    needed: u8,
 }
 
 /// A table whose rows stay where they are.
@@ -29,7 +30,11 @@ impl<'a> Table<'a> {
         let mut kinds = [Kind::default(); 8];
         for kind in &mut kinds[..usize::from(head.kinds)] {
             let (size, alignment) = fields.shape(&head)?;
-            *kind = Kind { size, alignment };
+            *kind = Kind {
+                size,
+                alignment,
+                needed: head.needed(size),
+            };
         }
         let states = fields.byte(4, |states| (1..=MOST_STATES).contains(&usize::from(states)))?;
         let count = usize::from(states) * usize::from(head.kinds);
@@ -95,7 +100,7 @@ impl<'a> Table<'a> {
         let kind = self.kinds[usize::from(kind)];
         match form {
             REGISTERS if given & run(a, b) != 0 => 2,
-            REGISTERS if u16::from(b) * u16::from(self.head.width) < u16::from(kind.size) => 3,
+            REGISTERS if b != kind.needed => 3,
             REGISTERS => 0,
             STACK if b != kind.size => 3,
             STACK if a & (kind.alignment - 1) != 0 => 4,

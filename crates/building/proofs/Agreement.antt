@@ -27,7 +27,7 @@ use Rattle.convention.specs.Built.{allocation, allocations, made, builtStates, 
 use Rattle.convention.specs.Promised.{HeadRead, SheetKindRead, SheetRead}
 use Rattle.convention.proofs.Numbers.{or-on, unless-true}
 use Rattle.convention.specs.Shapes.{rightCount}
-use Rattle.convention.proofs.Offsets.{width-pos, modulus-pos, aligned-residue, residue-aligned}
+use Rattle.convention.proofs.Offsets.{modulus-pos, aligned-residue, residue-aligned}
 use Rattle.convention.proofs.Shapes.{needed-right}
 use Rattle.convention.proofs.Numbering.{node-number, met-some, met-start}
 use Rattle.convention.proofs.Scanning.{met-scanned}
@@ -59,8 +59,8 @@ module _ (h : Head) (kind : SheetKind) (s : ByRules) (H : HeadRead h) (K : Sheet
       → tableFault h (kind .shape) (made (h .modulus) place next) given ≡ placeFault place
   unfolding tableFault
   made-fault (Registers first count) next given g within =
-      let room : rightCount (h .width) count (kind .shape) ≡ true = rw (g .2) (needed-right (h .width) (kind .shape) (width-pos (h .width) (H .width))) in
-      or-on _ _ (unless-true _ 2 (free-among given (s .unavailable) (first .0) count within (g .0))) ∙ unless-true _ 3 room
+      let right : rightCount (h .width) count (kind .shape) ≡ true = rw (g .2) (needed-right (h .width) (kind .shape)) in
+      or-on _ _ (unless-true _ 2 (free-among given (s .unavailable) (first .0) count within (g .0))) ∙ unless-true _ 3 right
   made-fault (Stack offset count) next given g within =
       let stored = residue-aligned (kind .shape .alignment) (h .modulus) (s .p .0) aligned (alignment-divides H K) in
       let residue : offset .0 % h .modulus % kind .shape .alignment ≡ 0 = rw (g .0) stored in

@@ -20,6 +20,7 @@ use Rattle.convention.specs.declared.Placement.the-variants.{Registers, Stack, 
 use Rattle.convention.specs.Bytes.{blocks}
 use Rattle.convention.specs.Layout.{kindsAt, shapeLength, stateLength, statesAt, rowsAt, transitionLength, rowLength, rowAt, transitionAt, tableLength, LengthSaid}
 use Rattle.convention.specs.Fields.{lengthNo, versionOf, headOf, stateField, stateBytes}
+use Rattle.convention.specs.Shapes.{registersNeeded}
 use Rattle.convention.specs.Sheets.{sheetKind, blankShape}
 use Rattle.convention.specs.Tables.{tableKindsOf, isTransition, tableNo, tableOf, tableKind, transition}
 use Rattle.convention.specs.Rules.{placeFault, byRules}
@@ -55,6 +56,13 @@ made-right : (h : Head) (kind : SheetKind) (s : ByRules) (place : Placement) (st
 made-right h kind s (Registers first count) states next g a n = and-eq-true-iff _ _ .1 (le-leb _ _ (g .1), lt-ltb _ _ (n refl))
 made-right h kind s (Stack offset count) states next g a n = and-eq-true-iff _ _ .1 (lt-ltb _ _ (mod-lt (offset .0) a), lt-ltb _ _ (n refl))
 made-right h kind s Nowhere states next g a n = refl
+
+-- Where the place is in registers, they are exactly those that the kind's size needs.
+parts-exact : (h : Head) (kind : SheetKind) (s : ByRules) (place : Placement) → Gives h kind s place → partsOf place .form ≡ 1
+    → partsOf place .count ≡ registersNeeded (h .width) (kind .shape)
+parts-exact h kind s (Registers first count) g e = g .2
+parts-exact h kind s (Stack offset count) g e = absurd (omega (arith, e))
+parts-exact h kind s Nowhere g e = absurd (omega (arith, e))
 
 -- How long the kinds are.
 pub kind-wide : (v : ℕ) (sheet : Sheet) (k : ℕ) → length (builtKind v sheet k) ≡ shapeLength v
@@ -184,6 +192,18 @@ module _ (v : ℕ) (sheet : Sheet) (l : List (Entry (allocations sheet))) where
   built-transition i k b c =
       rw (version-bytes, head-bytes, ← transition-part v bytes (transitionAt v h i k), cell-bytes i k b c)
       (transition-back v (builtTransition sheet l (node i) k))
+
+  -- Document 02, W-202, 'Built tables never differed': where a transition gives registers, they are exactly those that its kind's size needs.
+  pub built-exact : SheetRead sheet → (i k : ℕ) → i < length l → k < sheet .head .kinds
+      → transition (tableOf (tableOfStates v sheet l)) (tableOfStates v sheet l) i k .form ≡ 1
+      → transition (tableOf (tableOfStates v sheet l)) (tableOfStates v sheet l) i k .b
+      ≡ registersNeeded (tableOf (tableOfStates v sheet l) .head .width) (tableKind (tableOf (tableOfStates v sheet l)) k)
+  built-exact R i k b c e =
+      let from = fromAllocation (node i) in
+      let gives = rules-give h (sheetKind sheet k) from (R .kind k c) in
+      let stored = built-transition i k b c in
+      ap (λ x. x .b) stored
+      ∙ rw (built-head, built-kind k c) (parts-exact h (sheetKind sheet k) from (byRules sheet .place from k) gives (sym (ap (λ x. x .form) stored) ∙ e))
 
 -- The built table, where the states are no more than the limit, and its length can be said in two bytes.
 module _ (limit : ℕ) (sheet : Sheet) (R : SheetRead sheet) (whole : length (builtStates limit sheet) ≤ limit) (said : LengthSaid limit) where

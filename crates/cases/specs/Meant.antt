@@ -1,4 +1,4 @@
--- P8 to P12 of the judge's contract itself: what is to hold of whatever the judge answers, and not of a verdict found by trying.
+-- The cases that judge, P8 to P12 among them, of the judge's contract itself: what is to hold of whatever the judge answers, and not of a verdict found by trying.
 use Prim.Native.Nat.{ℕ, _≤_}
 use mathlib.Core.Path.{_≡_}
 use mathlib.Core.List.{List, [], _∷_}

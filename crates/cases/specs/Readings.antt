@@ -1,5 +1,5 @@
--- How a reader takes document 01, as far as its examples go through it: as the definitions say it, or by a misreading: those that 01 names and examples can tell, and three others.
-use Prim.Native.Nat.{ℕ, zero, suc, _+_, _%_}
+-- How a reader takes the documents, as far as their examples go through them: as the definitions say it, or by a misreading: those that 01 names and examples can tell, and four others.
+use Prim.Native.Nat.{ℕ, zero, suc, _+_, _*_, _%_}
 use mathlib.Core.Bool.{true, false, not, cond, _&&_}
 use mathlib.Core.List.{List, [], _∷_, map}
 use lib.Dec.{ltb, leb, eqb}
@@ -78,6 +78,18 @@ alignmentFirst = record {
   rules = byRules;
   table = λ table t. withFault (byTable table t) (λ s k.
       cond (eqb (transition table t (s .state) k .form) 2 && not (eqb (transition table t (s .state) k .a % tableKind table k .alignment) 0)) 4
+      (byTable table t .fault s k));
+  hunted = judgeRoom;
+}
+
+-- 01's words for fault 3 of registers, which document 02 replaces: 'registers with b times w below the size'.
+abbrev pub largeEnough : Reader
+largeEnough = record {
+  number = sheetNo;
+  rules = byRules;
+  table = λ table t. withFault (byTable table t) (λ s k.
+      cond (eqb (transition table t (s .state) k .form) 1 && eqb (byTable table t .fault s k) 3)
+      (unless (leb (tableKind table k .size) (transition table t (s .state) k .b * table .head .width)) 3)
       (byTable table t .fault s k));
   hunted = judgeRoom;
 }

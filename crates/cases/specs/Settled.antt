@@ -17,9 +17,9 @@ tooMany = replicate 400 char ++ unknown ∷ []
 abbrev pub bothWrong : List ℕ
 bothWrong = char ∷ double ∷ double ∷ unknown ∷ []
 
--- n = 1, w = A = 4, kinds of 4 and of 8 bytes, both given register 0 in the one state.
-abbrev pub shared : List ℕ
-shared = 0x00 ∷ 0x12 ∷ 0x01 ∷ 0x01 ∷ 0x04 ∷ 0x04 ∷ 0x02 ∷ 0x04 ∷ 0x04 ∷ 0x08 ∷ 0x04 ∷ 0x01 ∷ 0x01 ∷ 0x00 ∷ 0x01 ∷ 0x00 ∷ 0x01 ∷ 0x00 ∷ 0x01 ∷ 0x00 ∷ []
+-- n = 3, w = A = 4, kinds of 4 and of 8 bytes, both given register 0 in the one state; the second is given so many registers from it on.
+abbrev pub shared : ℕ → List ℕ
+shared count = 0x00 ∷ 0x12 ∷ 0x01 ∷ 0x03 ∷ 0x04 ∷ 0x04 ∷ 0x02 ∷ 0x04 ∷ 0x04 ∷ 0x08 ∷ 0x04 ∷ 0x01 ∷ 0x01 ∷ 0x00 ∷ 0x01 ∷ 0x00 ∷ 0x01 ∷ 0x00 ∷ count ∷ 0x00 ∷ []
 
 -- A table whose one transition is of form 9, and the same without its last byte.
 abbrev pub wrongForm : List ℕ
@@ -44,9 +44,9 @@ settled =
     -- 'so that 9 anywhere in the list comes before 10'.
     ∷ (place stacklessDouble bothWrong ⟹ refused 9 3 0 (lentFor bothWrong))
     ∷ (place stacklessDouble (char ∷ double ∷ double ∷ int ∷ []) ⟹ refused 10 2 1 (lentFor (char ∷ double ∷ double ∷ int ∷ [])))
-    -- Fault 2 before fault 3: the second argument's register was given, and is too small for it; alone it has fault 3.
-    ∷ (byTableIn shared (0 ∷ 1 ∷ []) (lentFor (0 ∷ 1 ∷ [])) ⟹ refused 10 1 2 (lentFor (0 ∷ 1 ∷ [])))
-    ∷ (byTableIn shared (1 ∷ []) (lentFor (1 ∷ [])) ⟹ refused 10 0 3 (lentFor (1 ∷ [])))
+    -- Fault 2 before fault 3: the second argument's register was given, and is one too few for it; alone it has fault 3.
+    ∷ (byTableIn (shared 1) (0 ∷ 1 ∷ []) (lentFor (0 ∷ 1 ∷ [])) ⟹ refused 10 1 2 (lentFor (0 ∷ 1 ∷ [])))
+    ∷ (byTableIn (shared 1) (1 ∷ []) (lentFor (1 ∷ [])) ⟹ refused 10 0 3 (lentFor (1 ∷ [])))
     -- 'p = 5, A = 8, residue 4 gives 4 + 8 = 12'.
     ∷ (byTableIn residues (0 ∷ 1 ∷ []) (lentFor (0 ∷ 1 ∷ [])) ⟹ placed 2 16 (onStack 0 5 ++ onStack 12 4))
     -- Number 7 'when its four bytes are there', and 3 where one is missing.

@@ -56,7 +56,7 @@ state-on table t sets state a b keeps holds = record {
 }
 
 -- One transition: what it has by itself, what it gives, and where it leads.
-module _ (h : Head) (shape : Shape) (x : Transition) (asks : FaultAsks shape x) (here next own gives after : ℕ) (reached : Bool) (before : Checks) where
+module _ (h : Head) (shape : Shape) (x : Transition) (asks : FaultAsks h shape x) (here next own gives after : ℕ) (reached : Bool) (before : Checks) where
   abbrev found : Checks
   found = record {
     closed = before .closed && (not (eqb own 0) || (reached && eqb (bitAnd next after) after));
@@ -116,7 +116,7 @@ module _ (table : Table) (t sets : List ℕ) (state : ℕ) (asks : StateAsks tab
     row-there = omega (arith, row-next, asks .asks .long)
 
     module _ (shape : Shape) (es : shape ≡ tableKind table k) where
-      pub row-asks : FaultAsks shape x
+      pub row-asks : FaultAsks (table .head) shape x
       row-asks = fault-asks table t state k (asks .asks .read) row-inside shape x es ex
 
       -- and it holds, as those before it.

@@ -55,7 +55,7 @@ fn check_transition(
     next: u32,
     checks: Checks,
 ) -> Checks
-    requires { ⌜ FaultAsks shape x ⌝ }
+    requires { ⌜ FaultAsks head shape x ⌝ }
     ensures { λ r. ⌜ TransitionIs head shape x here next checks r ⌝ }
 {
     let own = walking::step_fault(head, shape, x, 0);

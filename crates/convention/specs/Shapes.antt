@@ -1,16 +1,16 @@
--- Document 01: what a kind's shape, its size and alignment, asks of a place, by the rules and by a table alike.
+-- Documents 01 and 02: what a kind's shape, its size and alignment, asks of a place, by the rules and by a table alike.
 use Prim.Native.Nat.{ℕ, _+_, _-_, _*_, _/_}
 use mathlib.Core.Bool.{Bool}
-use lib.Dec.{leb}
+use lib.Dec.{eqb}
 use Rattle.convention.specs.declared.Shape.{Shape}
 
 -- 'A kind needs k registers, size / w rounded up.'
 abbrev pub registersNeeded : ℕ → Shape → ℕ
 registersNeeded w shape = (shape .size + w - 1) / w
 
--- When a register count b is right: not 'b times w below the size'.
+-- When a register count b is right, by document 02, W-202: 'Fault 3 should be given for any register count other than the size over w, rounded up.'
 unfoldable pub rightCount : ℕ → ℕ → Shape → Bool
-rightCount w b shape = leb (shape .size) (b * w)
+rightCount w b shape = eqb b (registersNeeded w shape)
 
 -- On the stack 'it takes size bytes'.
 unfoldable pub stackBytes : Shape → ℕ

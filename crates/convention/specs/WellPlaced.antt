@@ -30,7 +30,7 @@ HasByte Nowhere x = ⊥
 abbrev pub Share : Placement → Placement → Type 0
 Share a b = ((r : ℕ) × HasRegister a r × HasRegister b r) ⊎ ((x : ℕ) × HasByte a x × HasByte b x)
 
--- A place that is right for a kind: registers, all of them below n, that hold at least its size; or exactly its size of stack bytes, at a multiple of its alignment.
+-- A place that is right for a kind: 'exactly the registers its size needs' (document 02, W-202), all of them below n; or exactly its size of stack bytes, at a multiple of its alignment.
 unfoldable pub Right : Head → Shape → Placement → Type 0
 Right h shape (Registers first count) = ((r : ℕ) → HasRegister (Registers first count) r → r < h .registers) × (rightCount (h .width) count shape ≡ true)
 Right h shape (Stack offset count) = (count ≡ stackBytes shape) × (offset .0 % shape .alignment ≡ 0)

@@ -191,7 +191,8 @@ pub record Demand2 : Type 0 where
   pub built : (s out : List ℕ) (n len : ℕ) → build stateLimit s (length out) ≡ Built n len → BuiltBytes s out n len (buildMemory stateLimit s out)
 
 -- ---- Demand 3. 'A table that can be read, given room for 2N kinds, is passed exactly when no finite list of its kinds goes wrong. One that fails comes back with a list
--- that does go wrong; no shorter list does, and no list of that length earlier in kind order does.' A list goes right where it is `WellPlaced`, and wrong where it is not.
+-- that does go wrong; no shorter list does, and no list of that length earlier in kind order does.' A list goes right where it is `WellPlaced`: each
+-- argument has 'exactly the registers its size needs' (document 02, W-202) or exactly its stack bytes, rightly aligned, and no two share any. It goes wrong where it is not.
 
 -- The list goes wrong, and each list of the table's kinds that is shorter, or as long and earlier, goes right.
 pub record FirstWrong (t ks : List ℕ) : Type 0 where
@@ -213,7 +214,7 @@ pub record JudgedRight (t out : List ℕ) (answer : JudgingAnswer) (after : List
   pub failed : (fault n : ℕ) → answer ≡ Fault fault n → ComesBack t out fault n after
   pub either : (answer ≡ Clean) ⊎ ((fault n : ℕ) × (answer ≡ Fault fault n))
 
--- Demand 3: judging has an answer on every input; whatever answer and output it gives is right; and of 01's faults a list has none exactly where it goes right.
+-- Demand 3: judging has an answer on every input; whatever answer and output it gives is right; and a list has no fault exactly where it goes right.
 pub record Demand3 : Type 0 where
   pub answered : (t out : List ℕ) → (answer : JudgingAnswer) × (after : List ℕ) × Judges stateLimit t out answer after
   pub judged : (t out : List ℕ) (answer : JudgingAnswer) (after : List ℕ) → tableNo stateLimit t ≡ 0 → 2 * tableOf t .states ≤ length out

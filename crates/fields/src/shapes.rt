@@ -70,11 +70,13 @@ pub fn registers_needed(width: u8, shape: Shape) -> u8
     ((bytes - 1) >> shift as u32) as u8
 }
 
-// Whether a count of registers is right: they have room for the size.
+// Whether a count of registers is right: they are exactly those that the size needs.
 pub fn right_count(width: u8, count: u8, shape: Shape) -> bool
+    requires { ⌜ isWidth width ≡ true ⌝ }
     ensures { λ r. ⌜ r ≡ rightCount width count shape ⌝ }
 {
-    shape.size as u16 <= count as u16 * width as u16
+    let needed = registers_needed(width, shape);
+    count == needed
 }
 
 // How many bytes a kind takes on the stack.

@@ -65,7 +65,7 @@ module _ (table : Table) (t : List ℕ) (watch : Watch) (i node first : ℕ) (be
       through-kind = omega (arith, asks .read .head .kinds)
 
       module _ (x : Transition) (ex : x ≡ transition table t (nodeState node) k) (shape : Shape) (es : shape ≡ tableKind table k) where
-        pub through-asks : FaultAsks shape x
+        pub through-asks : FaultAsks (table .head) shape x
         through-asks = fault-asks table t (nodeState node) k (asks .read) through-in shape x es ex
 
         module _ (fault next : ℕ) (step : WatchedStepIs (table .head) shape x watch (nodeFlag node) fault next) where

@@ -40,7 +40,7 @@ fn gives(x: Transition, watch: Watch) -> bool
 // The fault of a step as far as what is watched tells: 2 where that is given once more, and else that of a step before which
 // nothing was given.
 fn watched_fault(head: Head, shape: Shape, x: Transition, again: bool) -> u8
-    requires { ⌜ FaultAsks shape x ⌝ }
+    requires { ⌜ FaultAsks head shape x ⌝ }
     ensures { λ f. ⌜ f ≡ watchedFault head shape x again ⌝ }
 {
     if again {
@@ -74,7 +74,7 @@ pub(crate) fn step(
     watch: Watch,
     given: bool,
 ) -> WatchedStep
-    requires { ⌜ FaultAsks shape x ⌝ }
+    requires { ⌜ FaultAsks head shape x ⌝ }
     requires { ⌜ WatchedBelow 16 watch ⌝ }
     ensures { λ s. ⌜ WatchedStepIs head shape x watch given (s .fault) (s .next) ⌝ }
 {

@@ -34,7 +34,7 @@ module _ (table : Table) (t ks : List ℕ) (asks : KnownAsks table t ks) where
       faulting-kind = omega (arith, faulting-inside .kind, asks .read .head .kinds)
 
       module _ (x : Transition) (ex : x ≡ transition table t state (getD ks i 0)) where
-        pub faulting-asks : (kind : Shape) → kind ≡ tableKind table (getD ks i 0) → FaultAsks kind x
+        pub faulting-asks : (kind : Shape) → kind ≡ tableKind table (getD ks i 0) → FaultAsks (table .head) kind x
         faulting-asks kind ek = fault-asks table t state (getD ks i 0) (asks .read) faulting-inside kind x ek ex
 
         pub faulting-gives : x .form ≡ 1 → x .a + x .b ≤ 16

@@ -82,8 +82,8 @@ module _ (table : Table) (t : List ℕ) (state k : ℕ) (read : TableRead stateL
   run : here .form ≡ 1 → here .a + here .b ≤ 16
   run = known-sixteen stateLimit table t read k (inside .kind) state (inside .state)
 
-  pub fault-asks : (shape : Shape) (x : Transition) → shape ≡ tableKind table k → x ≡ here → FaultAsks shape x
-  fault-asks shape x ek ex = rw (ek, ex) (record { run = run; aligned = read .kind k (inside .kind) .alignment })
+  pub fault-asks : (shape : Shape) (x : Transition) → shape ≡ tableKind table k → x ≡ here → FaultAsks (table .head) shape x
+  fault-asks shape x ek ex = rw (ek, ex) (record { wide = read .head .width; run = run; aligned = read .kind k (inside .kind) .alignment })
 
   pub give-asks : (x : Transition) → x ≡ here → x .form ≡ 1 → x .a + x .b ≤ 16
   give-asks x ex = rw ex run

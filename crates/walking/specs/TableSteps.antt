@@ -12,7 +12,7 @@ use Rattle.convention.specs.declared.ByTable.{ByTable}
 use Rattle.convention.specs.declared.Table.{Table}
 use Rattle.convention.specs.Numbers.{stateLimit, argumentLimit}
 use Rattle.convention.specs.Bytes.{written}
-use Rattle.convention.specs.Fields.{isModulus}
+use Rattle.convention.specs.Fields.{isWidth, isModulus}
 use Rattle.convention.specs.Rules.{markRun}
 use Rattle.convention.specs.Lists.{unknownAt, faultFrom, recordLength, recordOf}
 use Rattle.convention.specs.Walked.{tablePlace, tableFault, tableAfter, byTable, walkBegin}
@@ -22,8 +22,9 @@ use Rattle.stepping.specs.Sets.{setOf}
 use Rattle.stepping.specs.Walks.{MakeRest, Listed, RecordsRoom, shortList}
 use Rattle.walking.specs.declared.TableAt.{TableAt}
 
--- A transition of a table that was read, for a kind of it: where it gives registers, its run ends within the sixteen.
-pub record FaultAsks (shape : Shape) (x : Transition) : Type 0 where
+-- A transition of a table that was read, for a kind of it: the width and the alignment are such as 01 allows, and where it gives registers, its run ends within the sixteen.
+pub record FaultAsks (h : Head) (shape : Shape) (x : Transition) : Type 0 where
+  pub wide : isWidth (h .width) ≡ true
   pub run : x .form ≡ 1 → x .a + x .b ≤ 16
   pub aligned : isModulus (shape .alignment) ≡ true
 
@@ -43,7 +44,7 @@ asTable s = record { state = s .state; given = setOf 16 (s .given); p = s .p }
 
 -- A transition to be taken for a kind: what its fault asks, and what its place does, with room for its record from byte `at` on.
 pub record ArgumentAsks (h : Head) (shape : Shape) (x : Transition) (s : ByTable) (records : List ℕ) (at : ℕ) : Type 0 where
-  pub judged : FaultAsks shape x
+  pub judged : FaultAsks h shape x
   pub placed : PlaceAsks h x (s .p .0)
   pub room : at + recordLength ≤ length records
 

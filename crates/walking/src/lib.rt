@@ -19,7 +19,7 @@ ghost use mathlib.Core.Bool.{true};
 ghost use Prim.Native.Nat.{_+_, _≤_};
 ghost use lib.ListN.{length};
 ghost use Rattle.convention.specs.Numbers.{stateLimit, argumentLimit};
-ghost use Rattle.convention.specs.Fields.{isModulus};
+ghost use Rattle.convention.specs.Fields.{isWidth, isModulus};
 ghost use Rattle.convention.specs.Promised.{TableRead};
 ghost use Rattle.convention.specs.Lists.{faultFrom};
 ghost use Rattle.convention.specs.Walked.{registersFault, stackFault, tableFault, tablePlace, byTable, placeByTable, tableMemory, walkBegin};
@@ -29,6 +29,7 @@ ghost use Rattle.walking.specs.TableSteps.{FaultAsks, PlaceAsks, asTable
 
 // Faults 2 and 3 of a step that gives registers.
 fn registers_fault(head: Head, shape: Shape, x: Transition, given: u32) -> u8
+    requires { ⌜ isWidth (head .width) ≡ true ⌝ }
     requires { ⌜ x .a + x .b ≤ 16 ⌝ }
     ensures { λ r. ⌜ r ≡ registersFault head shape x (setOf 16 given) ⌝ }
 {
@@ -50,7 +51,7 @@ fn stack_fault(shape: Shape, x: Transition) -> u8
 
 // A step's fault, the first that applies, where the registers of `given` were given; 0 where none does.
 pub fn step_fault(head: Head, shape: Shape, x: Transition, given: u32) -> u8
-    requires { ⌜ FaultAsks shape x ⌝ }
+    requires { ⌜ FaultAsks head shape x ⌝ }
     ensures { λ r. ⌜ r ≡ tableFault head shape x (setOf 16 given) ⌝ }
 {
     if x.form == 1 {

@@ -71,7 +71,8 @@ pub struct Built {
     pub length: usize,
 }
 
-/// The judge's verdict: no list of kinds goes wrong; or the fault and the length of the list that shows it.
+/// The judge's verdict: no list of kinds goes wrong; or the fault, by its number in docs/FORMAT.md, and the length of the
+/// list that shows it.
 #[derive(Debug, Clone, Copy, PartialEq, Eq)]
 pub enum Verdict {
     Clean,

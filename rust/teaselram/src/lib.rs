@@ -192,6 +192,13 @@ pub fn build(sheet: &[u8], out: &mut [u8]) -> Result<Built, Refusal> {
 /// let verdict = teaselram::judge(&table, &mut list);
 /// assert_eq!(verdict, Ok(Verdict::Fault { fault: 2, length: 2 }));
 /// assert_eq!(list, [0, 0]);
+///
+/// // A kind of 8 bytes that is given three registers of 4 bytes, where it needs exactly two.
+/// let table = [0, 16, 1, 4, 4, 8, 1, 8, 8, 2, 1, 0, 3, 1, 2, 0, 8, 1];
+/// let mut list = [9; 4];
+/// let verdict = teaselram::judge(&table, &mut list);
+/// assert_eq!(verdict, Ok(Verdict::Fault { fault: 3, length: 1 }));
+/// assert_eq!(list, [0, 9, 9, 9]);
 /// ```
 pub fn judge(table: &[u8], out: &mut [u8]) -> Result<Verdict, Refusal> {
     // SAFETY: each pointer and length are a slice's; the library reads the first, writes nothing but `out`, which is

@@ -6,7 +6,7 @@ use Rattle.walking.proofs.step_fault.Statement.{statement}
 use Rattle.walking.proofs.step_fault.Tie as tie
 
 registers-fault-requires : tie.Need-registers-fault-requires
-registers-fault-requires c κs = c .before .before .pre .run (c .if1 .taken)
+registers-fault-requires c κs = (c .before .before .pre .wide, c .before .before .pre .run (c .if1 .taken))
 
 returns : tie.Need-returns
 unfolding tableFault

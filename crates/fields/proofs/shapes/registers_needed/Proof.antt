@@ -1,7 +1,7 @@
--- `registers_needed`: the shift divides by the width, and the quotient is at most the size, so it fits.
+-- `registers_needed`: the shift divides by the width, and the quotient of so few bytes fits.
+use native.Mathlib.Nat.{le-mul-of-pos-right, div-lt-iff-lt-mul}
 use native.Mathlib.Omega.{arith}
 use Rattle.convention.proofs.Offsets.{width-pos, width-most, width-power}
-use Rattle.convention.proofs.Shapes.{needed-most}
 use borrow.Author.Needs.{needs}
 use Rattle.fields.proofs.shapes.registers_needed.Statement.{statement}
 use Rattle.fields.proofs.shapes.registers_needed.Tie as tie
@@ -26,8 +26,8 @@ shr-result c = omega (arith, width-most (c .before .args .width) (c .before .pre
 
 cast-result-2 : tie.Need-cast-result-2
 cast-result-2 c =
-    let most = needed-most (c .before .args .width) (c .before .args .shape) 255 (width-pos (c .before .args .width) (c .before .pre)) (omega arith) in
-    rw (width-power (c .before .args .width) (c .before .pre)) (omega (arith, most))
+    let pos = width-pos (c .before .args .width) (c .before .pre) in
+    rw (width-power (c .before .args .width) (c .before .pre)) (record { fits = div-lt-iff-lt-mul pos .1 (omega (arith, le-mul-of-pos-right 255 pos)) })
 
 returns : tie.Need-returns
 returns c = rw (width-power (c .before .args .width) (c .before .pre))
