@@ -60,14 +60,14 @@ pub struct SheetKind {
 pub struct Sheet {
     pub version: u8,
     pub head: Head,
-    pub kinds: [SheetKind; 8],
+    pub kinds: [SheetKind; KIND_LIMIT],
 }
 
 // A table that was read, but for its rows, which stay in the caller's bytes. Of `kinds` the first m count.
 pub struct Table {
     pub version: u8,
     pub head: Head,
-    pub kinds: [Shape; 8],
+    pub kinds: [Shape; KIND_LIMIT],
     pub states: u16,
 }
 

@@ -2,6 +2,7 @@
 // first; the values are taken only from a sheet of which nothing is wrong. Each kind is parsed from the part of the sheet
 // that starts at its first byte.
 use convention::Head;
+use convention::KIND_LIMIT;
 use convention::Reading;
 use convention::Sheet;
 use convention::SheetAnswer;
@@ -138,15 +139,15 @@ fn blank_kind() -> SheetKind
 }
 
 // Eight blank kinds, to be filled.
-fn blank_kinds() -> [SheetKind; 8]
+fn blank_kinds() -> [SheetKind; KIND_LIMIT]
     ensures { λ r. ⌜ r ≡ replicate 8 blankKind ⌝ }
 {
     let blank = blank_kind();
-    [blank; 8]
+    [blank; KIND_LIMIT]
 }
 
 // The kinds of a sheet of which nothing is wrong, in an array of eight.
-fn kinds_of(version: u8, head: Head, s: &[u8]) -> [SheetKind; 8]
+fn kinds_of(version: u8, head: Head, s: &[u8]) -> [SheetKind; KIND_LIMIT]
     requires { ⌜ KindsRight version head (now s) ⌝ }
     ensures { λ r. ⌜ r ≡ sheetKindsOf version (drop kindsAt (now (s .entry))) (head .kinds) ++ replicate (8 - head .kinds) blankKind ⌝ }
 {

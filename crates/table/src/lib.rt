@@ -2,6 +2,7 @@
 // that is wrong is found first; the values are taken only from a table of which nothing is wrong. The rows stay where they
 // are, in the caller's bytes.
 use convention::Head;
+use convention::KIND_LIMIT;
 use convention::Reading;
 use convention::STATE_LIMIT;
 use convention::Shape;
@@ -47,15 +48,15 @@ fn kinds_no(version: u8, head: Head, t: &[u8]) -> u8
 }
 
 // What stands in the places of kinds that a table does not have: eight blank kinds, to be filled.
-fn blank_kinds() -> [Shape; 8]
+fn blank_kinds() -> [Shape; KIND_LIMIT]
     ensures { λ r. ⌜ r ≡ replicate 8 blankShape ⌝ }
 {
     let blank = shapes::blank_shape();
-    [blank; 8]
+    [blank; KIND_LIMIT]
 }
 
 // The kinds of a table that holds them all, in an array of eight.
-fn kinds_of(version: u8, head: Head, t: &[u8]) -> [Shape; 8]
+fn kinds_of(version: u8, head: Head, t: &[u8]) -> [Shape; KIND_LIMIT]
     requires { ⌜ KindsThere version head (now t) ⌝ }
     ensures { λ r. ⌜ r ≡ tableKindsOf version (drop kindsAt (now (t .entry))) (head .kinds) ++ replicate (8 - head .kinds) blankShape ⌝ }
 {
