@@ -19,7 +19,7 @@ use Rattle.convention.specs.declared.Placement.{Placement}
 use Rattle.convention.specs.declared.Allocation.{Allocation}
 use Rattle.convention.specs.Numbers.{stateLimit}
 use Rattle.convention.specs.Bytes.{written}
-use Rattle.convention.specs.Layout.{transitionLength, rowLength}
+use Rattle.convention.specs.Layout.{transitionLength, rowLength, rowsLength, inRow}
 use Rattle.convention.specs.Sheets.{sheetKind}
 use Rattle.convention.specs.Tables.{transitionBytes}
 use Rattle.convention.specs.Rules.{placeFault}
@@ -28,7 +28,7 @@ use Rattle.convention.specs.Built.{allocations, made, builtCell, builtRow, buil
 use Rattle.convention.proofs.Runs.{either}
 use Rattle.convention.proofs.Numbering.{metFrom-grows, met-grows, whole, upTo-node}
 use Rattle.building.specs.declared.memory.Met.{Met}
-use Rattle.building.specs.Deciding.{rowsVersion, cellAt, DecidedIs}
+use Rattle.building.specs.Deciding.{rowsVersion, DecidedIs}
 use Rattle.building.specs.Holding.{MetHolds, StateAt, Meets, LeadIs, MeetsLed, Passes, PassKindsAsks, PassesKinds, PassingKinds, ExploreAsks, Exploring}
 use Rattle.building.proofs.Leading.{lead-of}
 use Rattle.building.proofs.Readable.{cell-wide, row-wide}
@@ -124,14 +124,14 @@ module _ (sheet : Sheet) (i : ℕ) (met₀ : Met) (states₀ links₀ rows₀ : 
 
   module _ (a : Allocation) (k : ℕ) (met : Met) (states links rows : List ℕ) (passing : PassingKinds sheet a i k rows₀ met states links rows) where
     -- Kind k: its transition has room among the rows, and is the one that comes next.
-    module _ (h : k < sheet .head .kinds) (at : ℕ) (ea : at ≡ cellAt (sheet .head) i k) where
-      cell-room : cellAt (sheet .head) i k + transitionLength rowsVersion ≤ length rows₀
+    module _ (h : k < sheet .head .kinds) (row at : ℕ) (er : row ≡ rowsLength rowsVersion (sheet .head) i) (ea : at ≡ inRow rowsVersion row k) where
+      cell-room : inRow rowsVersion (rowsLength rowsVersion (sheet .head) i) k + transitionLength rowsVersion ≤ length rows₀
       cell-room =
-          let row = rows-room (sheet .head) (suc i) (asks .read .head .kinds) below in
-          omega (arith, row, asks .room, mul-le-mul-left (transitionLength rowsVersion) h)
+          let whole = rows-room (sheet .head) (suc i) (asks .read .head .kinds) below in
+          omega (arith, whole, asks .room, mul-le-mul-left (transitionLength rowsVersion) h)
 
       pub cell-there : at + transitionLength rowsVersion ≤ length rows
-      cell-there = rw (ea, passing .long) cell-room
+      cell-there = rw (ea, er, passing .long) cell-room
 
       pub passing-on : (r : Met) (after relinked made : List ℕ) → StateAt states₀ i a → length made ≡ length rows
           → Passes (sheet .head) (sheetKind sheet k) a met states links rows at r after relinked made → PassingKinds sheet a i (k + 1) rows₀ r after relinked made
@@ -146,7 +146,7 @@ module _ (sheet : Sheet) (i : ℕ) (met₀ : Met) (states₀ links₀ rows₀ : 
                 let before = passing .cells (was-whole sheet met r _ _ _ _ _ _ (passing .holds) now (metFrom-grows X (metBefore X i) a i k (k + 1) (omega arith) .longer) o) in
                 let cell = passes .cell sheet k refl refl _ i (passing .holds) o in
                 blocks-on (cells a) _ _ rows₀ (transitionLength rowsVersion) k rows made (cell-wide rowsVersion sheet _ a) before h cell-room
-                (rw (ea, add-one, cell-stays rowsVersion sheet i k stateLimit a inside h below node) at cell);
+                (rw (ea, er, add-one, cell-stays rowsVersion sheet i k stateLimit a inside h below node) at cell);
           }
 
     -- After the last kind.

@@ -1,5 +1,5 @@
 -- Laws of writing the table: stores one after the other, blocks one after the other, and the parts put together.
-use Prim.Native.Nat.{ℕ, _+_, _-_, _*_, _/_, _%_, _≤_, _<_, _^_, zero-le}
+use Prim.Native.Nat.{ℕ, _+_, _-_, _*_, _/_, _%_, _≤_, _<_, zero-le}
 use mathlib.Core.Path.{_≡_, refl, sym, ap, _∙_}
 use mathlib.Core.List.{List, [], _∷_, _++_, append-assoc, append-nil}
 use native.Mathlib.Numerals.{add-one, add-two}
@@ -7,8 +7,6 @@ use native.Mathlib.Nat.{add-zero, mul-le-mul}
 use native.Mathlib.Omega.{arith}
 use lib.ListN.{length, set, take, drop, length-append, length-take, length-drop, length-set, drop-of-length-le}
 use lib.Seq.{length-take-le, take-all, drop-drop}
-use mir.Syntax.{w16}
-use mir.Val.{Fits}
 use Rattle.convention.specs.declared.Head.{Head}
 use Rattle.convention.specs.declared.Shape.{Shape}
 use Rattle.convention.specs.declared.Sheet.{Sheet}
@@ -18,7 +16,7 @@ use Rattle.convention.specs.declared.Transition.{Transition}
 use Rattle.convention.specs.Bytes.{written, blocks}
 use Rattle.convention.specs.Numbers.{stateLimit}
 use Rattle.convention.specs.Layout.{lengthAt, lengthBytes, versionAt, registersAt, widthAt, modulusAt, kindsCountAt, kindsAt, sizeAt, alignmentAt, shapeLength, tableKindAt, stateLength, statesAt, rowsAt, formAt, aAt, bAt, nextAt}
-use Rattle.convention.specs.Layout.{transitionLength, rowLength, rowAt, tableLength}
+use Rattle.convention.specs.Layout.{transitionLength, rowLength, rowsLength, rowAt, tableLength}
 use Rattle.convention.specs.Fields.{shapeBytes, stateBytes}
 use Rattle.convention.specs.Sheets.{sheetKind}
 use Rattle.convention.specs.Tables.{transitionBytes}
@@ -26,8 +24,7 @@ use Rattle.convention.specs.Explored.{Entry}
 use Rattle.convention.specs.Built.{allocations, made, builtVersion, builtRow, builtKind, builtBody, tableOfStates, builtStates, builtTable}
 use Rattle.convention.proofs.Bytes.{length-written, written-nothing, written-sets, written-one, part-written, written-more, length-blocks, written-block}
 use Rattle.convention.proofs.Positions.{state-wide, kind-inside}
-use Rattle.fields.proofs.Counted.{row-most}
-use Rattle.building.specs.Deciding.{rowsVersion, rowsLength, rowsMost, WriteAsks}
+use Rattle.building.specs.Deciding.{rowsVersion, rowsMost, WriteAsks}
 use Rattle.building.specs.Writing.{CopyAsks, KindsAsk, openingBytes, FrontAsks, frontBytes, BlocksSoFar}
 use Rattle.building.proofs.Readable.{built-length, kind-wide, kinds-length, row-wide}
 
@@ -76,7 +73,7 @@ pub made-written : (v modulus : ℕ) (place : Placement) (next : ℕ) (x : Trans
 made-written v modulus place next x d at out ex e = rw ex at e
 
 -- The rows of as many states as a table may have are in the room for them.
-pub rows-room : (h : Head) (states : ℕ) → h .kinds ≤ 8 → states ≤ stateLimit → rowsLength h states ≤ rowsMost
+pub rows-room : (h : Head) (states : ℕ) → h .kinds ≤ 8 → states ≤ stateLimit → rowsLength rowsVersion h states ≤ rowsMost
 unfolding stateLength
 rows-room h states few counted =
     let row : rowLength rowsVersion h ≤ 4 * 8 = omega arith in
@@ -116,17 +113,13 @@ module _ (v : ℕ) (sheet : Sheet) (k : ℕ) (before out : List ℕ) (asks : Kin
   kind-on after e =
       blocks-on (builtKind v sheet) kindsAt _ before (shapeLength v) k out after (kind-wide v sheet) half h inside (rw ea at e)
 
--- How long the rows of so many states are: that can be counted.
-pub rows-few : (row states : ℕ) → row ≤ 255 * 255 → Fits w16 states → row * states < 2 ^ 33
-rows-few row states h f = omega (arith, row-most row states h f 0 (omega arith))
-
-rows-long : (sheet : Sheet) (states : ℕ) → length (blocks (builtRow rowsVersion sheet (builtStates stateLimit sheet)) states) ≡ rowsLength (sheet .head) states
+rows-long : (sheet : Sheet) (states : ℕ) → length (blocks (builtRow rowsVersion sheet (builtStates stateLimit sheet)) states) ≡ rowsLength rowsVersion (sheet .head) states
 rows-long sheet states = length-blocks _ (rowLength rowsVersion (sheet .head)) states (λ i _. row-wide rowsVersion sheet _ i)
 
 -- The rows of so many states, written from the first byte on, are the first bytes.
 pub rows-made : (sheet : Sheet) (states : ℕ) (before rows : List ℕ)
     → rows ≡ written before 0 (blocks (builtRow rowsVersion sheet (builtStates stateLimit sheet)) states)
-    → take (rowsLength (sheet .head) states) rows ≡ blocks (builtRow rowsVersion sheet (builtStates stateLimit sheet)) states
+    → take (rowsLength rowsVersion (sheet .head) states) rows ≡ blocks (builtRow rowsVersion sheet (builtStates stateLimit sheet)) states
 rows-made sheet states before rows e = rw (← rows-long sheet states, e) (part-written before 0 _ zero-le)
 
 -- One more part, written right after those from the first byte on.
@@ -210,15 +203,15 @@ module _ (sheet : Sheet) (states v : ℕ) (rows d : List ℕ) (asks : WriteAsks 
   pub front-asks : FrontAsks v sheet states d
   front-asks = record { read = asks .read; room = asks .few; there = omega (arith, asks .there, table-long) }
 
-  module _ (front : List ℕ) (ef : front ≡ written d 0 (frontBytes v sheet states)) (len : ℕ) (el : len ≡ rowsLength (sheet .head) states)
+  module _ (front : List ℕ) (ef : front ≡ written d 0 (frontBytes v sheet states)) (len : ℕ) (el : len ≡ rowsLength rowsVersion (sheet .head) states)
       (at : ℕ) (ea : at ≡ rowsAt v (sheet .head)) where
     -- The rows are there, and there is room for them.
     rows-there : len ≤ length rows
-    rows-there = rw el (omega (arith, ap length (asks .made .made), rows-long sheet states, length-take (rowsLength (sheet .head) states) rows))
+    rows-there = rw el (omega (arith, ap length (asks .made .made), rows-long sheet states, length-take (rowsLength rowsVersion (sheet .head) states) rows))
 
     rows-fit : at + len ≤ length front
     rows-fit =
-        let rows-same : rowLength v (sheet .head) * states ≡ rowsLength (sheet .head) states = rw same-version in
+        let rows-same : rowLength v (sheet .head) * states ≡ rowsLength rowsVersion (sheet .head) states = rw same-version in
         let front-there : 0 + length (frontBytes v sheet states) ≤ length d = omega (arith, front-end v sheet states, front-asks .there) in
         rw (ef, length-written d 0 (frontBytes v sheet states) front-there, el, ea) (omega (arith, asks .there, table-long, rows-same))
 
@@ -227,5 +220,5 @@ module _ (sheet : Sheet) (states v : ℕ) (rows d : List ℕ) (asks : WriteAsks 
 
     pub table-written : (out : List ℕ) → out ≡ written front at (take len rows) → out ≡ written d 0 (builtTable stateLimit sheet)
     table-written out e =
-        let rows-are : blocks (builtRow v sheet l) states ≡ take (rowsLength (sheet .head) states) rows = rw same-version (sym (asks .made .made)) in
+        let rows-are : blocks (builtRow v sheet l) states ≡ take (rowsLength rowsVersion (sheet .head) states) rows = rw same-version (sym (asks .made .made)) in
         rw (← parts) (next-part d (frontBytes v sheet states) _ front out (rowsAt v (sheet .head)) ef (front-end v sheet states) (rw rows-are (rw (ea, el) at e)))

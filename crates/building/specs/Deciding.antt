@@ -1,15 +1,14 @@
 -- What is decided of the table of a sheet that was read, before a byte of it is written, and what writing it asks.
-use Prim.Native.Nat.{ℕ, _+_, _*_, _≤_, _<_}
+use Prim.Native.Nat.{ℕ, _*_, _≤_, _<_}
 use mathlib.Core.Path.{_≡_}
 use mathlib.Core.Bool.{Bool, true, false}
 use mathlib.Core.List.{List}
 use lib.ListN.{length, take}
-use Rattle.convention.specs.declared.Head.{Head}
 use Rattle.convention.specs.declared.Sheet.{Sheet}
 use Rattle.convention.specs.declared.BuildingAnswer.{BuildingAnswer}
 use Rattle.convention.specs.Numbers.{stateLimit}
 use Rattle.convention.specs.Bytes.{blocks}
-use Rattle.convention.specs.Layout.{transitionLength, rowLength}
+use Rattle.convention.specs.Layout.{rowsLength}
 use Rattle.convention.specs.Promised.{SheetRead}
 use Rattle.convention.specs.Built.{builtRow, builtStates, builtTable, buildSheetNo, builtOrRefused, buildWrites}
 
@@ -17,21 +16,14 @@ use Rattle.convention.specs.Built.{builtRow, builtStates, builtTable, buildShee
 abbrev pub rowsVersion : ℕ
 rowsVersion = 1
 
--- How many bytes the rows of so many states take, and where among them the transition of a kind at a state starts.
-abbrev pub rowsLength : Head → ℕ → ℕ
-rowsLength h states = rowLength rowsVersion h * states
-
-abbrev pub cellAt : Head → ℕ → ℕ → ℕ
-cellAt h state k = rowsLength h state + transitionLength rowsVersion * k
-
--- The most bytes that they take: four for each of eight kinds, of as many states as a table may have.
+-- The most bytes that rows take: four for each of eight kinds, of as many states as a table may have.
 abbrev pub rowsMost : ℕ
 rowsMost = 4 * 8 * stateLimit
 
 -- So many are all the states of a sheet, and the first bytes are their rows.
 pub record RowsMade (sheet : Sheet) (states : ℕ) (rows : List ℕ) : Type 0 where
   pub many : states ≡ length (builtStates stateLimit sheet)
-  pub made : take (rowsLength (sheet .head) states) rows ≡ blocks (builtRow rowsVersion sheet (builtStates stateLimit sheet)) states
+  pub made : take (rowsLength rowsVersion (sheet .head) states) rows ≡ blocks (builtRow rowsVersion sheet (builtStates stateLimit sheet)) states
 
 -- Deciding: a sheet that was read, and room for the rows.
 pub record DecideAsks (sheet : Sheet) (rows : List ℕ) : Type 0 where

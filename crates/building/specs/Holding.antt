@@ -15,9 +15,9 @@ use Rattle.convention.specs.Promised.{HeadRead, SheetKindRead, SheetRead}
 use Rattle.convention.specs.Rules.{placeFault, rulesPlace, rulesAfter}
 use Rattle.convention.specs.Explored.{Entry, entry, number as numberOf, meet, metFrom, met as metBefore}
 use Rattle.convention.specs.Bytes.{written}
-use Rattle.convention.specs.Layout.{transitionLength}
+use Rattle.convention.specs.Layout.{transitionLength, rowsLength}
 use Rattle.convention.specs.Built.{allocation, fromAllocation, allocations, builtCell, builtRow, builtStates}
-use Rattle.building.specs.Deciding.{rowsVersion, rowsLength, rowsMost, DecideAsks}
+use Rattle.building.specs.Deciding.{rowsVersion, rowsMost, DecideAsks}
 use Rattle.building.specs.Keys.{KeyIs}
 use Rattle.building.specs.Links.{Linked}
 use Rattle.building.specs.Writing.{BlocksSoFar}
@@ -89,7 +89,7 @@ pub record PassKindsAsks (sheet : Sheet) (i : ℕ) (met : Met) (states links row
 -- What it leads to is kept, and its row is that of the built table.
 pub record PassesKinds (sheet : Sheet) (i : ℕ) (rows : List ℕ) (r : Met) (after relinked made : List ℕ) : Type 0 where
   pub holds : MetHolds sheet after relinked r (metBefore (allocations sheet) (i + 1))
-  pub row : r .over ≡ false → made ≡ written rows (rowsLength (sheet .head) i) (builtRow rowsVersion sheet (builtStates stateLimit sheet) i)
+  pub row : r .over ≡ false → made ≡ written rows (rowsLength rowsVersion (sheet .head) i) (builtRow rowsVersion sheet (builtStates stateLimit sheet) i)
 
 -- Half way through it, before kind k.
 pub record PassingKinds (sheet : Sheet) (a : Allocation) (i k : ℕ) (rows : List ℕ) (met : Met) (states links made : List ℕ) : Type 0 where
@@ -97,7 +97,7 @@ pub record PassingKinds (sheet : Sheet) (a : Allocation) (i k : ℕ) (rows : Lis
   pub long : length made ≡ length rows
   pub holds : MetHolds sheet states links met (metFrom (allocations sheet) (metBefore (allocations sheet) i) a i k)
   pub cells : met .over ≡ false
-      → BlocksSoFar (builtCell rowsVersion sheet (builtStates stateLimit sheet) a) (rowsLength (sheet .head) i) k (sheet .head .kinds) rows made
+      → BlocksSoFar (builtCell rowsVersion sheet (builtStates stateLimit sheet) a) (rowsLength rowsVersion (sheet .head) i) k (sheet .head .kinds) rows made
 
 -- The states of a sheet that was read, of which none was met, and room for their rows.
 pub record ExploreAsks (sheet : Sheet) (states links rows : List ℕ) : Type 0 where

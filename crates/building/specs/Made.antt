@@ -1,4 +1,4 @@
--- Document 01, 'The built table': what a transition of it says, field by field, and placing by it.
+-- Document 01, 'The built table': placing by it.
 use Prim.Native.Nat.{ℕ}
 use Rattle.convention.specs.declared.Sheet.{Sheet}
 use Rattle.convention.specs.Tables.{tableOf}

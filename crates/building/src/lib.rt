@@ -33,6 +33,7 @@ ghost use Rattle.building.specs.Holding.{LeadAsks, LeadIs, MeetsLed, Pas
 use crate::memory::LINK_COUNT;
 use crate::memory::Meeting;
 use crate::memory::Met;
+use crate::writer::ROWS_VERSION;
 
 // How many bytes a transition takes among the rows.
 const CELL_BYTES: usize = 4;
@@ -141,11 +142,12 @@ fn pass_kinds(
     let from = memory::state_at(states, i);
     let head = sheet.head;
     let kinds = head.kinds;
+    let row = layout::rows_length(ROWS_VERSION, head, i);
     let mut more = met;
     let mut k: u8 = 0;
     while k < kinds {
         let kind = sheet.kinds[k as usize];
-        let at = writer::cell_at(head, i, k);
+        let at = layout::in_row(ROWS_VERSION, row, k);
         more = pass(head, kind, from, more, states, links, rows, at);
         k += 1;
     }
@@ -222,7 +224,7 @@ pub fn write(sheet: Sheet, states: u16, rows: &[u8], out: &mut [u8])
     let version = writer::built_version(sheet, states);
     let head = sheet.head;
     writer::write_front(version, sheet, states, out);
-    let len = writer::rows_length(head, states);
+    let len = layout::rows_length(ROWS_VERSION, head, states);
     writer::copy_rows(rows, len, out, layout::rows_at(version, head));
 }
 

@@ -23,7 +23,7 @@ use fields::layout::VERSION_AT;
 use fields::layout::WIDTH_AT;
 ghost use mathlib.Core.Path.{_≡_};
 ghost use mathlib.Core.Bool.{true};
-ghost use Prim.Native.Nat.{_+_, _≤_, _<_, _^_};
+ghost use Prim.Native.Nat.{_+_, _≤_};
 ghost use lib.ListN.{length, take};
 ghost use Rattle.convention.specs.Numbers.{stateLimit};
 ghost use Rattle.convention.specs.Bytes.{written, blocks};
@@ -31,11 +31,11 @@ ghost use Rattle.convention.specs.Layout.{kindsAt, shapeLength, stateLength, tr
 ghost use Rattle.convention.specs.Fields.{isModulus, shapeBytes, stateBytes};
 ghost use Rattle.convention.specs.Tables.{transitionBytes};
 ghost use Rattle.convention.specs.Built.{fieldA, made, builtVersion, builtKind};
-ghost use Rattle.building.specs.Deciding.{rowsVersion, rowsLength, cellAt};
+ghost use Rattle.building.specs.Deciding.{rowsVersion};
 ghost use Rattle.building.specs.Writing.{FieldAsks, MadeAsks, CopyAsks, KindsAsk, openingBytes, FrontAsks, frontBytes};
 
 // The version in whose form rows are made: `rowsVersion`.
-const ROWS_VERSION: u8 = 1;
+pub(crate) const ROWS_VERSION: u8 = 1;
 
 // The version of a sheet's table of so many states.
 pub(crate) fn built_version(sheet: Sheet, states: u16) -> u8
@@ -97,21 +97,6 @@ fn write_transition(version: u8, x: Transition, out: &mut [u8], at: usize)
     out[at + A_AT] = x.a;
     out[at + B_AT] = x.b;
     write_state(version, x.next, out, at + NEXT_AT);
-}
-
-// How many bytes the rows of so many states take, in the form in which they are made.
-pub(crate) fn rows_length(head: Head, states: u16) -> usize
-    ensures { λ r. ⌜ r ≡ rowsLength head states ⌝ }
-    ensures { λ r. ⌜ r < 2 ^ 33 ⌝ }
-{
-    layout::row_length(ROWS_VERSION, head) * states as usize
-}
-
-// Where among the rows the transition of a kind at a state starts.
-pub(crate) fn cell_at(head: Head, state: u16, k: u8) -> usize
-    ensures { λ r. ⌜ r ≡ cellAt head state k ⌝ }
-{
-    rows_length(head, state) + layout::transition_length(ROWS_VERSION) * k as usize
 }
 
 // Writes among the rows, from byte `at` on, the transition that is made of a place and the next state's number.

@@ -1,6 +1,6 @@
 -- P1 to P12 as one statement: what the definitions of crates/convention give for each case is what document 01 says. By computation. So are the cases that settle more, and those of document 02.
 use mathlib.Core.Path.{_≡_, refl}
-use mathlib.Core.List.{[], _∷_, map}
+use mathlib.Core.List.{[], _∷_, _++_, map}
 use Rattle.convention.specs.Layout.{shapeLength, stateLength}
 use Rattle.convention.specs.Fields.{versionOf, headOf, headNo, openingNo, shapeNo, shapeOf, shapeBytes, stateField, stateBytes}
 use Rattle.convention.specs.Shapes.{rightCount, stackBytes}
@@ -20,25 +20,18 @@ pub cases-hold : map (λ (c : Case). comesOf ours (c .given)) cases ≡ map (λ 
 unfolding comesOf versionOf headOf headNo openingNo shapeLength stateLength shapeNo shapeOf shapeBytes stateField stateBytes rightCount stackBytes startsNo sheetKindNo sheetKindOf sheetKindsNo sheetKindsOf sheetKindsLength sheetNo sheetOf tableKindsNo tableKindsOf transitionNo transitionsNo tableNo tableOf rowNo row leastOffset faultFrom stopFrom stateFrom placesFrom recordsOf unknownAt placing placingMemory freeRun markRuns skippedBefore rulesPlace rulesAfter tableFault tableAfter eachKind listsOf listsUpTo firstFault
 cases-hold = refl
 
-pub settled-hold : map (λ (c : Case). comesOf ours (c .given)) settled ≡ map (λ (c : Case). c .says) settled
+pub settled-hold : map (λ (c : Case). comesOf ours (c .given)) (settled ++ requested) ≡ map (λ (c : Case). c .says) (settled ++ requested)
 unfolding comesOf versionOf headOf headNo openingNo shapeLength stateLength shapeNo shapeOf shapeBytes stateField stateBytes rightCount stackBytes startsNo sheetKindNo sheetKindOf sheetKindsNo sheetKindsOf sheetKindsLength sheetNo sheetOf tableKindsNo tableKindsOf transitionNo transitionsNo tableNo tableOf rowNo row leastOffset faultFrom stopFrom stateFrom placesFrom recordsOf unknownAt placing placingMemory freeRun markRuns skippedBefore rulesPlace rulesAfter tableFault tableAfter eachKind listsOf listsUpTo firstFault
 settled-hold = refl
 
-pub requested-hold : map (λ (c : Case). comesOf ours (c .given)) requested ≡ map (λ (c : Case). c .says) requested
-unfolding comesOf versionOf headOf headNo openingNo shapeLength stateLength shapeNo shapeOf shapeBytes stateField stateBytes rightCount stackBytes startsNo sheetKindNo sheetKindOf sheetKindsNo sheetKindsOf sheetKindsLength sheetNo sheetOf tableKindsNo tableKindsOf transitionNo transitionsNo tableNo tableOf rowNo row leastOffset faultFrom stopFrom stateFrom placesFrom recordsOf unknownAt placing placingMemory freeRun markRuns skippedBefore rulesPlace rulesAfter tableFault tableAfter eachKind listsOf listsUpTo firstFault
-requested-hold = refl
-
--- Misreadings that 01 names, and two others: by which of P1 to P12 each is caught.
+-- Misreadings that 01 names, and two others: by which of P1 to P12 each is caught. 01's own register count, which 02 replaces, is caught by none of them, and by the cases of W-202
+-- with too many registers.
 pub misread-caught :
     (failing skippedGone 1 cases ≡ 4 ∷ []) × (failing forgetsP 1 cases ≡ 2 ∷ 3 ∷ 4 ∷ 5 ∷ []) × (failing eachAlone 1 cases ≡ 8 ∷ []) × (failing stopsAtN 1 cases ≡ 8 ∷ [])
     × (failing alignmentFirst 1 cases ≡ 12 ∷ []) × (failing lengthOfAll 1 cases ≡ 1 ∷ 2 ∷ 3 ∷ 4 ∷ 5 ∷ 6 ∷ 7 ∷ [])
+    × (failing largeEnough 1 cases ≡ []) × (failing largeEnough 1 requested ≡ 2 ∷ 4 ∷ 9 ∷ [])
 unfolding failing sameBytes comesOf versionOf headOf headNo openingNo shapeLength stateLength shapeNo shapeOf shapeBytes stateField stateBytes rightCount stackBytes startsNo sheetKindNo sheetKindOf sheetKindsNo sheetKindsOf sheetKindsLength sheetNo sheetOf tableKindsNo tableKindsOf transitionNo transitionsNo tableNo tableOf rowNo row leastOffset faultFrom stopFrom stateFrom placesFrom recordsOf unknownAt placing placingMemory freeRun markRuns skippedBefore rulesPlace rulesAfter tableFault tableAfter eachKind listsOf listsUpTo firstFault
-misread-caught = (refl, refl, refl, refl, refl, refl)
-
--- 01's own count of registers, which 02 replaces, is caught by none of P1 to P12, and by those of W-202 with too many registers.
-pub replaced-caught : (failing largeEnough 1 cases ≡ []) × (failing largeEnough 1 requested ≡ 2 ∷ 4 ∷ 9 ∷ [])
-unfolding failing sameBytes comesOf versionOf headOf headNo openingNo shapeLength stateLength shapeNo shapeOf shapeBytes stateField stateBytes rightCount stackBytes startsNo sheetKindNo sheetKindOf sheetKindsNo sheetKindsOf sheetKindsLength sheetNo sheetOf tableKindsNo tableKindsOf transitionNo transitionsNo tableNo tableOf rowNo row leastOffset faultFrom stopFrom stateFrom placesFrom recordsOf unknownAt placing placingMemory freeRun markRuns skippedBefore rulesPlace rulesAfter tableFault tableAfter eachKind listsOf listsUpTo firstFault
-replaced-caught = (refl, refl)
+misread-caught = (refl, refl, refl, refl, refl, refl, refl, refl)
 
 -- The cases speak of the definitions that the public calls' contracts cite.
 pub as-defined : (g : Given) → comesOf asDefined g ≡ defined g

@@ -1,7 +1,7 @@
 -- The cases that judge, P8 to P12 among them, of the judge's contract: two verdicts that it allows are one, and the verdict by trying is allowed.
 use Prim.Native.Nat.{ℕ, zero, suc}
 use mathlib.Core.Path.{_≡_, refl, sym, ap}
-use mathlib.Core.List.{List, [], _∷_, map}
+use mathlib.Core.List.{List, [], _∷_, _++_, map}
 use native.Mathlib.Omega.{arith}
 use lib.ListN.{length}
 use lib.Seq.{take-append-seam}
@@ -17,7 +17,7 @@ use Rattle.cases.specs.Cases.{Given, byRulesIn, byTableIn, judge, askRow
 use Rattle.cases.specs.Settled.{settled}
 use Rattle.cases.specs.Requested.{requested}
 use Rattle.cases.specs.Meant.{JudgedAs, AllJudged}
-use Rattle.cases.proofs.Hold.{cases-hold, settled-hold, requested-hold, as-defined}
+use Rattle.cases.proofs.Hold.{cases-hold, settled-hold, as-defined}
 
 -- A table that can be read, which has its verdict by trying.
 judged-as : (t : List ℕ) → tableNo stateLimit t ≡ 0 → JudgedAs (judge t) (judged 0 (verdictByTrying t))
@@ -52,5 +52,5 @@ all-judged (c ∷ cs) e =
     let here : comesOf asDefined (c .given) ≡ c .says = cc in
     (rw (← here) (one-judged (c .given)), all-judged cs (cc))
 
-pub judged-hold : AllJudged cases × AllJudged settled × AllJudged requested
-judged-hold = (all-judged cases cases-hold, all-judged settled settled-hold, all-judged requested requested-hold)
+pub judged-hold : AllJudged cases × AllJudged (settled ++ requested)
+judged-hold = (all-judged cases cases-hold, all-judged (settled ++ requested) settled-hold)

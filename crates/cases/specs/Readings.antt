@@ -1,4 +1,5 @@
--- How a reader takes the documents, as far as their examples go through them: as the definitions say it, or by a misreading: those that 01 names and examples can tell, and four others.
+-- How a reader takes the documents, as far as their examples go through them: as the definitions say it; by a misreading, those that 01 names and examples can tell, and three others; or
+-- by words of 01 that document 02 replaces.
 use Prim.Native.Nat.{ℕ, zero, suc, _+_, _*_, _%_}
 use mathlib.Core.Bool.{true, false, not, cond, _&&_}
 use mathlib.Core.List.{List, [], _∷_, map}

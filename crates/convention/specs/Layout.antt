@@ -90,15 +90,21 @@ nextAt = 3
 abbrev pub transitionLength : ℕ → ℕ
 transitionLength v = nextAt + stateLength v
 
--- 'a row of m transitions': how long it is, where row `state` starts, and where its transition of kind k does.
+-- 'a row of m transitions': how long it is, and those of so many states; where row `state` starts; and where the transition of kind k does, in a row that starts at some byte, and in that row.
 abbrev pub rowLength : ℕ → Head → ℕ
 rowLength v h = transitionLength v * h .kinds
 
+abbrev pub rowsLength : ℕ → Head → ℕ → ℕ
+rowsLength v h states = rowLength v h * states
+
 abbrev pub rowAt : ℕ → Head → ℕ → ℕ
-rowAt v h state = rowsAt v h + rowLength v h * state
+rowAt v h state = rowsAt v h + rowsLength v h state
+
+abbrev pub inRow : ℕ → ℕ → ℕ → ℕ
+inRow v row k = row + transitionLength v * k
 
 abbrev pub transitionAt : ℕ → Head → ℕ → ℕ → ℕ
-transitionAt v h state k = rowAt v h state + transitionLength v * k
+transitionAt v h state k = inRow v (rowAt v h state) k
 
 -- How long a table of so many states is: its last row ends it.
 abbrev pub tableLength : ℕ → Head → ℕ → ℕ

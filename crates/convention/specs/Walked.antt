@@ -25,8 +25,8 @@ tablePlace h x p =
     cond (eqb (x .form) 1) (Registers (record { 0 = x .a }) (x .b))
     (cond (eqb (x .form) 2) (Stack (record { 0 = leastOffset (h .modulus) (x .a) p }) (x .b)) Nowhere)
 
--- 'fault 2: a register of the run was given to an earlier argument; fault 3:' a register count that is not right, which document 02 says for 01's words, 'or
--- stack with b other than the size; fault 4: stack with a residue that is no multiple of the alignment'.
+-- 'fault 2: a register of the run was given to an earlier argument; fault 3:' a register count that is not right (document 02, W-202, in place of 01's words), 'or stack with b
+-- other than the size; fault 4: stack with a residue that is no multiple of the alignment'.
 abbrev pub registersFault : Head → Shape → Transition → List Bool → ℕ
 registersFault h shape x given = orElse (unless (freeRun given (x .a) (x .b)) 2) (unless (rightCount (h .width) (x .b) shape) 3)
 

@@ -24,17 +24,10 @@ module _ (a b : ℕ) (h : a ≤ 255) (f : Fits w8 b) where
   pub cell-fits : (at : ℕ) → at < 2 ^ 33 → Fits w64 (at + a * b)
   cell-fits at l = record { fits = omega (arith, product-most) }
 
--- A row's length times two bytes, after where the first row starts.
+-- A row's length times two bytes.
 module _ (a b : ℕ) (h : a ≤ 255 * 255) (f : Fits w16 b) where
-  rows-most : a * b ≤ 255 * 255 * 65535
-  rows-most = let few : b ≤ 65535 = omega (arith, f .fits) in mul-le-mul h few
+  pub rows-most : a * b < 2 ^ 32
+  rows-most = let few : b ≤ 65535 = omega (arith, f .fits) in omega (arith, mul-le-mul h few)
 
   pub rows-fit : Fits w64 (a * b)
   rows-fit = record { fits = omega (arith, rows-most) }
-
-  module _ (first : ℕ) (l : first < 2 ^ 18) where
-    pub row-most : first + a * b < 2 ^ 33
-    row-most = omega (arith, rows-most)
-
-    pub row-fits : Fits w64 (first + a * b)
-    row-fits = record { fits = omega (arith, row-most) }

@@ -4,7 +4,7 @@
 use convention::Head;
 ghost use mathlib.Core.Path.{_≡_};
 ghost use Prim.Native.Nat.{_*_, _≤_, _<_, _^_};
-ghost use Rattle.convention.specs.Layout.{shapeLength, flagsAt, triesAt, startsAt, tableKindAt, stateLength, statesAt, rowsAt, transitionLength, rowLength, rowAt, transitionAt};
+ghost use Rattle.convention.specs.Layout.{shapeLength, flagsAt, triesAt, startsAt, tableKindAt, stateLength, statesAt, rowsAt, transitionLength, rowLength, rowsLength, rowAt, inRow, transitionAt};
 
 // `lengthAt`.
 pub const LENGTH_AT: usize = 0;
@@ -126,17 +126,33 @@ pub fn row_length(version: u8, head: Head) -> usize
     transition_length(version) * head.kinds as usize
 }
 
+// How many bytes the rows of so many states take.
+pub fn rows_length(version: u8, head: Head, states: u16) -> usize
+    ensures { λ r. ⌜ r ≡ rowsLength version head states ⌝ }
+    ensures { λ r. ⌜ r < 2 ^ 32 ⌝ }
+{
+    row_length(version, head) * states as usize
+}
+
 // Where the row of a state starts; of as many states as there are, where the table ends.
 pub fn row_at(version: u8, head: Head, state: u16) -> usize
     ensures { λ r. ⌜ r ≡ rowAt version head state ⌝ }
     ensures { λ r. ⌜ r < 2 ^ 33 ⌝ }
 {
-    rows_at(version, head) + row_length(version, head) * state as usize
+    rows_at(version, head) + rows_length(version, head, state)
+}
+
+// Where the transition of a kind starts, in a row that starts at byte `row`.
+pub fn in_row(version: u8, row: usize, k: u8) -> usize
+    requires { ⌜ row < 2 ^ 33 ⌝ }
+    ensures { λ r. ⌜ r ≡ inRow version row k ⌝ }
+{
+    row + transition_length(version) * k as usize
 }
 
 // Where the transition of a kind at a state starts.
 pub fn transition_at(version: u8, head: Head, state: u16, k: u8) -> usize
     ensures { λ r. ⌜ r ≡ transitionAt version head state k ⌝ }
 {
-    row_at(version, head, state) + transition_length(version) * k as usize
+    in_row(version, row_at(version, head, state), k)
 }

@@ -137,12 +137,12 @@ module _ (limit m : ℕ) (M : Steps) (ks : List ℕ) (room number at : ℕ) (tes
         go zero w =
             let long : length (records M ks) ≡ recordLength * length ks = records-long M ks in
             record {
-              answers = rw (through, known, ← w .walk .first, w .walk .final refl);
+              answers = rw (through, known, ← w .first, w .final refl);
               makes = rw (w .made refl, ← long) (take-at (records M ks) _ (length (records M ks)) refl);
               there = there;
               fits = tests .roomy z;
             }
-        go (suc fault) w = record { answers = rw (through, known, ← w .walk .first, ← w .walk .position); makes = refl; there = omega arith; fits = omega arith }
+        go (suc fault) w = record { answers = rw (through, known, ← w .first, ← w .position); makes = refl; there = omega arith; fits = omega arith }
 
 -- A list that passed its tests is short enough.
 pub list-short : (limit m : ℕ) (ks : List ℕ) (room number at : ℕ) → ListTested limit m ks room number at → number ≡ 0 → length ks ≤ limit

@@ -13,35 +13,22 @@ use Rattle.stepping.specs.declared.Decided.{Decided}
 use Rattle.convention.specs.Bytes.{written}
 use Rattle.convention.specs.Lists.{Steps, faultFrom, stopFrom, stateFrom, placesFrom, recordsOf, recordLength, records, unknownAt, listNo, placing, placingMemory}
 
--- The whole walk: its fault and where it stops, and p where nothing is faulty.
-pub record WalkIs (M : Steps) (ks : List ℕ) (fault stop : ℕ) (p : Offset) : Type 0 where
-  pub first : fault ≡ faultFrom M (M .begin) ks
-  pub position : stop ≡ stopFrom M (M .begin) ks
-  pub final : fault ≡ 0 → p ≡ M .p (stateFrom M (M .begin) ks)
-
--- Half way through, before argument i and in state s: what is left of the list gives the fault, the position and the state of all.
-pub record WalkRest (M : Steps) (ks : List ℕ) (s : M .State) (i : ℕ) : Type 0 where
+-- Half way through a list, before argument i and in state s: what is left of the list gives the fault, the position, the state and the records of all; those of the first i
+-- arguments stand in front of the memory for them, which held `before`, and its bytes after them are untouched.
+pub record MakeRest (M : Steps) (ks before : List ℕ) (s : M .State) (i : ℕ) (out : List ℕ) : Type 0 where
   pub within : i ≤ length ks
   pub fault : faultFrom M s (drop i ks) ≡ faultFrom M (M .begin) ks
   pub stop : i + stopFrom M s (drop i ks) ≡ stopFrom M (M .begin) ks
   pub state : stateFrom M s (drop i ks) ≡ stateFrom M (M .begin) ks
-
--- Half way through writing: the records of the first i arguments stand in front, the bytes after them are untouched, and what is left of the
--- list gives the records that are left.
-pub record WriteRest (M : Steps) (ks : List ℕ) (before : List ℕ) (s : M .State) (i : ℕ) (out : List ℕ) : Type 0 where
-  pub within : i ≤ length ks
-  pub written : out ≡ take (recordLength * i) (records M ks) ++ drop (recordLength * i) before
   pub rest : recordsOf (placesFrom M s (drop i ks)) ≡ drop (recordLength * i) (records M ks)
+  pub made : out ≡ take (recordLength * i) (records M ks) ++ drop (recordLength * i) before
   pub long : length out ≡ length before
 
--- Half way through both at once, the records being made in memory that held `before`.
-pub record MakeRest (M : Steps) (ks before : List ℕ) (s : M .State) (i : ℕ) (out : List ℕ) : Type 0 where
-  pub walk : WalkRest M ks s i
-  pub writes : WriteRest M ks before s i out
-
--- The whole walk with the records that it makes: all of them, where nothing is faulty.
+-- The whole walk: its fault and where it stops; and where nothing is faulty, p and all the records.
 pub record WalkMakes (M : Steps) (ks before : List ℕ) (fault stop : ℕ) (p : Offset) (after : List ℕ) : Type 0 where
-  pub walk : WalkIs M ks fault stop p
+  pub first : fault ≡ faultFrom M (M .begin) ks
+  pub position : stop ≡ stopFrom M (M .begin) ks
+  pub final : fault ≡ 0 → p ≡ M .p (stateFrom M (M .begin) ks)
   pub made : fault ≡ 0 → after ≡ written before 0 (records M ks)
   pub long : length after ≡ length before
 

@@ -9,13 +9,16 @@ use Rattle.building.proofs.pass_kinds.Statement.{statement}
 use Rattle.building.proofs.pass_kinds.Tie as tie
 
 abbrev Inv-loop : tie.InvT-loop
-Inv-loop i states₀ links₀ rows₀ sheet from head kinds more₀ k₀ states links rows more k = PassingKinds sheet from i k rows₀ more states links rows
+Inv-loop i states₀ links₀ rows₀ sheet from head kinds row more₀ k₀ states links rows more k = PassingKinds sheet from i k rows₀ more states links rows
 
 abbrev μ-loop : tie.MeasureT-loop
-μ-loop i states₀ links₀ rows₀ sheet from head kinds more₀ k₀ states links rows more k = kinds - k
+μ-loop i states₀ links₀ rows₀ sheet from head kinds row more₀ k₀ states links rows more k = kinds - k
 
 state-at-requires : tie.Need-state-at-requires Inv-loop μ-loop
 state-at-requires c κs = search needs
+
+rows-length-requires : tie.Need-rows-length-requires Inv-loop μ-loop
+rows-length-requires c κs = search needs
 
 loop-holds : tie.Need-loop-holds Inv-loop μ-loop
 loop-holds c = search (passing-begin, needs)
@@ -29,14 +32,14 @@ mul-kind c = search needs
 element-copy-out-kind : tie.Need-element-copy-out-kind Inv-loop μ-loop
 element-copy-out-kind c = search needs
 
-cell-at-requires : tie.Need-cell-at-requires Inv-loop μ-loop
-cell-at-requires c κs = search needs
+in-row-requires : tie.Need-in-row-requires Inv-loop μ-loop
+in-row-requires c κs = omega (arith, c .before .before .before .rows-length .ensures .1)
 
 pass-requires : tie.Need-pass-requires Inv-loop μ-loop
-pass-requires c κs = record { lead = lead-asks _ _ (c .before .before .before .before .before .before .before .before .before .before .before .before .before .pre .read) (omega arith); linked = search needs; there = search (cell-there, needs) }
+pass-requires c κs = record { lead = lead-asks _ _ (c .before .before .before .before .before .before .before .before .before .before .before .before .before .before .pre .read) (omega arith); linked = search needs; there = search (cell-there, needs) }
 
 add-k : tie.Need-add-k Inv-loop μ-loop
-add-k c = search needs
+add-k c = omega (arith, c .before .before .before .before .before .before .before .before .before .before .before .before .loop-test .taken, c .before .before .before .before .before .before .before .before .before .before .before .before .before .before .before .before .before .before .before .before .before .pre .read .head .kinds)
 
 loop-less : tie.Need-loop-less Inv-loop μ-loop
 loop-less c = search needs
@@ -63,11 +66,12 @@ pass-kinds-spec =
     Inv-loop
     μ-loop
     state-at-requires
+    rows-length-requires
     loop-holds
     cast-kind
     mul-kind
     element-copy-out-kind
-    cell-at-requires
+    in-row-requires
     pass-requires
     add-k
     loop-less

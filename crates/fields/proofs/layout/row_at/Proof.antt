@@ -1,5 +1,5 @@
 -- `row_at`: where the first row starts and the rows before, each by what its function answers.
-use Rattle.fields.proofs.Counted.{rows-fit, row-most, row-fits}
+use native.Mathlib.Omega.{arith}
 use borrow.Author.Needs.{needs}
 use Rattle.fields.proofs.layout.row_at.Statement.{statement}
 use Rattle.fields.proofs.layout.row_at.Tie as tie
@@ -7,18 +7,15 @@ use Rattle.fields.proofs.layout.row_at.Tie as tie
 rows-at-requires : tie.Need-rows-at-requires
 rows-at-requires c κs = search needs
 
-row-length-requires : tie.Need-row-length-requires
-row-length-requires c κs = search needs
-
-mul-result : tie.Need-mul-result
-mul-result c = search (rows-fit, needs)
+rows-length-requires : tie.Need-rows-length-requires
+rows-length-requires c κs = search needs
 
 add-result : tie.Need-add-result
-add-result c = search (row-fits, needs)
+add-result c = omega (arith, c .rows-length .ensures .1, c .before .rows-at .ensures .1)
 
 returns : tie.Need-returns
-returns c = (rw (c .row-length .ensures .0, c .before .rows-at .ensures .0), search (row-most, needs))
+returns c =
+    (rw (c .rows-length .ensures .0, c .before .rows-at .ensures .0), omega (arith, c .rows-length .ensures .1, c .before .rows-at .ensures .1))
 
 pub row-at-spec : {M : Type 1} → statement M
-row-at-spec =
-    tie.close (tie.spec rows-at-requires row-length-requires mul-result add-result returns)
+row-at-spec = tie.close (tie.spec rows-at-requires rows-length-requires add-result returns)
