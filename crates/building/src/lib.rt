@@ -1,5 +1,6 @@
 // Building a sheet's table: one exploration of the allocation states decides it, rows and all, and then it is written. Document
 // 01, 'The built table'.
+#![tactic(auto)]
 mod memory;
 mod writer;
 
@@ -53,7 +54,7 @@ fn allocation(modulus: u8, s: RulesAt) -> Allocation
 }
 
 // Where a kind leads from an allocation state: the place that the rules give, and the state after it.
-#[derive(Drop)]
+#[derive(Clone, Copy)]
 struct Led {
     place: Placement,
     next: Allocation,
@@ -179,7 +180,7 @@ fn explore(sheet: Sheet, states: &mut [u32], links: &mut [u16], rows: &mut [u8])
 
 // What was decided of a sheet's table: N, and whether more states are reached than a table may have. Once it is `over`, N and
 // the rows say nothing.
-#[derive(Drop)]
+#[derive(Clone, Copy)]
 pub struct DecidedTable {
     pub states: u16,
     pub over: bool,

@@ -21,14 +21,14 @@ const SPREAD_LOW: u64 = 0x80_0000;
 pub(crate) const LINK_COUNT: usize = STATE_LIMIT + SLOTS;
 
 // How many states were met. Once it is `over`, more were met than have room.
-#[derive(Drop)]
+#[derive(Clone, Copy)]
 pub(crate) struct Met {
     pub(crate) count: u16,
     pub(crate) over: bool,
 }
 
 // A state met: how many were met with it, and its number, which says nothing once they are `over`.
-#[derive(Drop)]
+#[derive(Clone, Copy)]
 pub(crate) struct Meeting {
     pub(crate) met: Met,
     pub(crate) number: u16,

@@ -17,7 +17,7 @@ const WAITS: u32 = 0x2_0000;
 const GROWTHS: u16 = 17;
 
 // The states that wait, in a ring of `STATE_LIMIT` places: so many from the first on.
-#[derive(Drop)]
+#[derive(Clone, Copy)]
 struct Waiting {
     first: u16,
     count: u16,

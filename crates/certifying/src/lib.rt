@@ -2,6 +2,7 @@
 // one that holds every register which may be given there, with a mark that the state is reached. They are filled, and then
 // checked transition by transition: only the check is relied on. See specs/Certified.antt for what it finds, and
 // proofs/Certified.antt for what that says of lists.
+#![tactic(auto)]
 mod filling;
 
 ghost use Rattle.std.specs.Prelude.{◌≡◌};
@@ -21,7 +22,7 @@ const EACH_REGISTER: u32 = 0xFFFF;
 
 // What the transitions that were checked say: whether the sets are closed, whether none has a fault by itself, and the
 // registers that one gives at a state whose set has them.
-#[derive(Drop)]
+#[derive(Clone, Copy)]
 struct Checks {
     closed: bool,
     clean: bool,
@@ -31,7 +32,7 @@ struct Checks {
 // What is known of a table: where it is clean no list of its kinds has a fault, and a register that is not in `twice`, a bit
 // for each of the sixteen, is given twice by no list. Nothing is said of a table that is not clean, nor of a register that is
 // in `twice`.
-#[derive(Drop)]
+#[derive(Clone, Copy)]
 pub struct Certificate {
     pub clean: bool,
     pub twice: u32,

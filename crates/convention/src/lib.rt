@@ -1,5 +1,6 @@
 // The words of document 01: registers and offsets, the placement, heads and kinds, the states, and the answer of each call.
 // Types alone. What they mean stands in specs/, section by section; the laws of those definitions stand in proofs/.
+#![tactic(auto)]
 
 // The most states of a table: the definition `state_limit`.
 pub const STATE_LIMIT: usize = 200;
@@ -14,15 +15,15 @@ pub const ARGUMENT_LIMIT: usize = 400;
 pub const RECORD_LENGTH: usize = 6;
 
 // A register's number. Never an offset.
-#[derive(Drop)]
+#[derive(Clone, Copy)]
 pub struct Reg(pub u8);
 
 // A byte offset on the stack. Never a register's number.
-#[derive(Drop)]
+#[derive(Clone, Copy)]
 pub struct Offset(pub u32);
 
 // Where one argument goes: registers with a first and a count, stack with an offset and a count, or nowhere.
-#[derive(Drop)]
+#[derive(Clone, Copy)]
 pub enum Placement {
     Registers(Reg, u8),
     Stack(Offset, u8),
@@ -31,7 +32,7 @@ pub enum Placement {
 
 // What a placement is made of: its form, 1 for registers, 2 for the stack and 0 for nowhere; its first register or its offset;
 // its count.
-#[derive(Drop)]
+#[derive(Clone, Copy)]
 pub struct PlacementParts {
     pub form: u8,
     pub number: u32,
@@ -39,7 +40,7 @@ pub struct PlacementParts {
 }
 
 // The head of a sheet or a table: n, w, A and m.
-#[derive(Drop)]
+#[derive(Clone, Copy)]
 pub struct Head {
     pub registers: u8,
     pub width: u8,
@@ -48,14 +49,14 @@ pub struct Head {
 }
 
 // What both files say of a kind: its size and its alignment. It is all that a table says of one.
-#[derive(Drop)]
+#[derive(Clone, Copy)]
 pub struct Shape {
     pub size: u8,
     pub alignment: u8,
 }
 
 // A sheet's kind. Of `starts` the first `tries` count; the others are 0.
-#[derive(Drop)]
+#[derive(Clone, Copy)]
 pub struct SheetKind {
     pub shape: Shape,
     pub flags: u8,
@@ -64,7 +65,7 @@ pub struct SheetKind {
 }
 
 // A sheet that was read. Of `kinds` the first m count; the others are blank.
-#[derive(Drop)]
+#[derive(Clone, Copy)]
 pub struct Sheet {
     pub version: u8,
     pub head: Head,
@@ -72,7 +73,7 @@ pub struct Sheet {
 }
 
 // A table that was read, but for its rows, which stay in the caller's bytes. Of `kinds` the first m count.
-#[derive(Drop)]
+#[derive(Clone, Copy)]
 pub struct Table {
     pub version: u8,
     pub head: Head,
@@ -81,7 +82,7 @@ pub struct Table {
 }
 
 // One transition of a table, as its bytes say it.
-#[derive(Drop)]
+#[derive(Clone, Copy)]
 pub struct Transition {
     pub form: u8,
     pub a: u8,
@@ -90,21 +91,21 @@ pub struct Transition {
 }
 
 // An allocation state: the set of unavailable registers with p mod A.
-#[derive(Drop)]
+#[derive(Clone, Copy)]
 pub struct Allocation {
     pub unavailable: [bool; 16],
     pub remainder: u8,
 }
 
 // How far placing by the rules has come, as the definitions have it: the set of unavailable registers, and p.
-#[derive(Drop)]
+#[derive(Clone, Copy)]
 pub struct ByRules {
     pub unavailable: [bool; 16],
     pub p: Offset,
 }
 
 // How far placing by a table has come, as the definitions have it: the state, the registers given to earlier arguments, and p.
-#[derive(Drop)]
+#[derive(Clone, Copy)]
 pub struct ByTable {
     pub state: u16,
     pub given: [bool; 16],
@@ -112,21 +113,21 @@ pub struct ByTable {
 }
 
 // Whether bytes could be read; a refusal carries its number. (What was read stands beside it: an enum holds no array.)
-#[derive(Drop)]
+#[derive(Clone, Copy)]
 pub enum Reading {
     Read,
     Refused(u8),
 }
 
 // The answer of reading a sheet. On a refusal the sheet is blank.
-#[derive(Drop)]
+#[derive(Clone, Copy)]
 pub struct SheetAnswer {
     pub reading: Reading,
     pub sheet: Sheet,
 }
 
 // The answer of reading a table. On a refusal the table is blank.
-#[derive(Drop)]
+#[derive(Clone, Copy)]
 pub struct TableAnswer {
     pub reading: Reading,
     pub table: Table,
@@ -134,7 +135,7 @@ pub struct TableAnswer {
 
 // The answer of placing a list: the number of arguments and the final p; or a refusal, 9 with its position, 10 with
 // position and fault.
-#[derive(Drop)]
+#[derive(Clone, Copy)]
 pub enum PlacingAnswer {
     Placed(usize, Offset),
     Unknown(usize),
@@ -143,14 +144,14 @@ pub enum PlacingAnswer {
 }
 
 // The answer of building: N and the table's length.
-#[derive(Drop)]
+#[derive(Clone, Copy)]
 pub enum BuildingAnswer {
     Built(u16, usize),
     Refused(u8),
 }
 
 // The answer of judging: clean, or fault number and list length.
-#[derive(Drop)]
+#[derive(Clone, Copy)]
 pub enum JudgingAnswer {
     Clean,
     Fault(u8, usize),

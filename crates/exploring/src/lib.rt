@@ -3,6 +3,7 @@
 // exploration's, as specs/Memory.antt lays them out; the others are the caller's, and no function but `write_path` touches them.
 // No function knows what is explored: whatever entries the memory holds, of whatever automaton, it holds those afterwards that
 // the definitions make of them.
+#![tactic(auto)]
 mod words;
 
 ghost use Rattle.std.specs.Prelude.{◌≡◌, ◌<◌};

@@ -7,7 +7,7 @@ use crate::steps::Watch;
 use convention::Table;
 
 // How far an entry was gone through: the first faulty kind, the number of kinds where none is, and how many entries there are then.
-#[derive(Drop)]
+#[derive(Clone, Copy)]
 struct GoneThrough {
     kind: u8,
     count: usize,
@@ -55,7 +55,7 @@ fn go_through(
 }
 
 // What the search found: an entry and its first faulty kind; the number of kinds where nothing is faulty.
-#[derive(Drop)]
+#[derive(Clone, Copy)]
 pub(crate) struct Found {
     pub(crate) entry: usize,
     pub(crate) kind: u8,

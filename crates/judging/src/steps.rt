@@ -8,7 +8,7 @@ ghost use Rattle.judging.specs.Searched.{WatchedStepIs};
 use convention::{Head, Reg, Shape, Transition};
 
 // What a walk watches: a register, or nothing.
-#[derive(Drop)]
+#[derive(Clone, Copy)]
 pub(crate) enum Watch {
     Register(Reg),
     Nothing,
@@ -59,7 +59,7 @@ fn node_of(state: u16, given: bool) -> usize
 }
 
 // What a step leads to: its fault, and the node after it.
-#[derive(Drop)]
+#[derive(Clone, Copy)]
 pub(crate) struct WatchedStep {
     pub(crate) fault: u8,
     pub(crate) next: usize,

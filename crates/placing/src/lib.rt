@@ -1,4 +1,5 @@
 // Placing by the rules: one search of a kind's starts, one argument, a list. Document 01, 'Placing by the rules'.
+#![tactic(auto)]
 ghost use Rattle.std.specs.Prelude.{◌≡◌, length};
 ghost use Rattle.convention.specs.Numbers.{argument_limit};
 ghost use Rattle.convention.specs.Promised.{SheetRead};
@@ -15,7 +16,7 @@ use fields::shapes;
 use stepping::{Decided, SHORT_LIST, Walk};
 
 // How far placing has come: the unavailable registers, a bit for each, and p.
-#[derive(Drop)]
+#[derive(Clone, Copy)]
 pub struct RulesAt {
     pub unavailable: u32,
     pub p: Offset,
@@ -23,7 +24,7 @@ pub struct RulesAt {
 
 // What a search of a kind's starts found: how many are skipped, which are those before the first whose run is wholly
 // available, or all of them; and the registers of the runs that were tried and not taken, available or not, a bit for each.
-#[derive(Drop)]
+#[derive(Clone, Copy)]
 struct Searched {
     skipped: u8,
     passed: u32,
@@ -104,7 +105,7 @@ fn cursor(flags: u8, skipped: u8) -> u8
 }
 
 // One argument placed: its place, how far placing has come after it, and where the next search of its kind may begin.
-#[derive(Drop)]
+#[derive(Clone, Copy)]
 struct StepFrom {
     place: Placement,
     next: RulesAt,
@@ -137,7 +138,7 @@ fn step_from(head: Head, kind: SheetKind, s: RulesAt, from: u8) -> StepFrom
 }
 
 // One argument placed: its place, and how far placing has come after it.
-#[derive(Drop)]
+#[derive(Clone, Copy)]
 pub struct RulesStep {
     pub place: Placement,
     pub next: RulesAt,

@@ -1,6 +1,7 @@
 // Reads a rule sheet: document 01, 'Bytes of a sheet and of a table'. The number of the first thing that is wrong is found
 // first; the values are taken only from a sheet of which nothing is wrong. Each kind is parsed from the part of the sheet
 // that starts at its first byte.
+#![tactic(auto)]
 ghost use Rattle.std.specs.Prelude.{◌≡◌, true, ◌++◌, ◌+◌, ◌-◌, ◌≤◌, length, take, drop, replicate};
 ghost use Rattle.convention.specs.Layout.{kinds_at};
 ghost use Rattle.convention.specs.Fields.{is_width};
@@ -61,7 +62,7 @@ fn kind_length(version: u8, s: &[u8]) -> usize
 }
 
 // What going through the kinds found: the number of the first thing wrong, and where the last kind ends if nothing is.
-#[derive(Drop)]
+#[derive(Clone, Copy)]
 pub struct Kinds {
     pub number: u8,
     pub end: usize,

@@ -1,5 +1,6 @@
 // What placing by the rules and placing by a table have in common: sets and runs of registers, the least offset, the tests of a
 // list's length, room and kinds, what a walk decides and how that is written, a placement's record, and what a placement takes.
+#![tactic(auto)]
 ghost use Rattle.std.specs.Prelude.{◌≡◌, ◌+◌, ◌%◌, ◌≤◌, ◌<◌, ◌^◌, true, length, take};
 ghost use Rattle.convention.specs.Fields.{is_modulus};
 ghost use Rattle.convention.specs.Offsets.{IsLeast, least_offset};
@@ -20,7 +21,7 @@ use convention::{
 pub const SHORT_LIST: usize = 32;
 
 // What going through a list found: the fault of the first faulty step and its position; or 0, and the final p.
-#[derive(Drop)]
+#[derive(Clone, Copy)]
 pub struct Walk {
     pub fault: u8,
     pub stop: usize,
@@ -97,7 +98,7 @@ fn unknown_at(kinds: u8, list: &[u8]) -> usize
 }
 
 // The number of the first test that a list fails, with 9 the position of its first unknown kind; or 0.
-#[derive(Drop)]
+#[derive(Clone, Copy)]
 pub struct Tested {
     pub number: u8,
     pub at: usize,
@@ -121,7 +122,7 @@ pub fn test_list(kinds: u8, list: &[u8], room: usize) -> Tested
 }
 
 // What was decided of a list: the answer, and how many bytes of records were made, 0 where it is a refusal.
-#[derive(Drop)]
+#[derive(Clone, Copy)]
 pub struct Decided {
     pub answer: PlacingAnswer,
     pub bytes: usize,

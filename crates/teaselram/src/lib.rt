@@ -1,6 +1,7 @@
 // The static library: the calls of document 01 for C and Rust. A slice is a pointer and a length; nothing is written but `out`.
 // Each answer is one of three structs of eight bytes, by value: 01's number, 0 on success, and the values that 01 names for the
 // answer; every other field is 0.
+#![tactic(auto)]
 ghost use Rattle.std.specs.Prelude.{◌≡◌, ◌<◌, ◌^◌, length};
 ghost use Rattle.convention.specs.Numbers.{state_limit, argument_limit, reading_no, placing_says, building_says, judging_says};
 ghost use Rattle.convention.specs.Built.{build, build_memory};
@@ -14,7 +15,7 @@ use convention::{BuildingAnswer, Head, JudgingAnswer, PlacingAnswer, Reading, Sh
 use fields::layout;
 
 #[repr(C)]
-#[derive(Drop)]
+#[derive(Clone, Copy)]
 pub struct Answer {
     pub number: u8,
     pub fault: u8,
@@ -23,7 +24,7 @@ pub struct Answer {
 }
 
 #[repr(C)]
-#[derive(Drop)]
+#[derive(Clone, Copy)]
 pub struct HeadAnswer {
     pub number: u8,
     pub registers: u8,
@@ -35,7 +36,7 @@ pub struct HeadAnswer {
 }
 
 #[repr(C)]
-#[derive(Drop)]
+#[derive(Clone, Copy)]
 pub struct KindAnswer {
     pub number: u8,
     pub size: u8,

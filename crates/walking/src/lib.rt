@@ -1,4 +1,5 @@
 // Placing by a table: one step with its fault, then a list. Document 01, 'Placing by a table'.
+#![tactic(auto)]
 ghost use Rattle.std.specs.Prelude.{◌≡◌, true, ◌+◌, ◌≤◌, length};
 ghost use Rattle.convention.specs.Numbers.{state_limit, argument_limit};
 ghost use Rattle.convention.specs.Fields.{is_width, is_modulus};
@@ -78,7 +79,7 @@ fn place(head: Head, x: Transition, p: Offset) -> Placement
 }
 
 // How far placing by a table has come: the state, the registers that were given, a bit for each, and p.
-#[derive(Drop)]
+#[derive(Clone, Copy)]
 struct TableAt {
     state: u16,
     given: u32,
@@ -97,7 +98,7 @@ fn begin() -> TableAt
 }
 
 // One argument placed: its step's fault, and how far placing has come after it if there is none.
-#[derive(Drop)]
+#[derive(Clone, Copy)]
 struct Stepped {
     fault: u8,
     next: TableAt,
