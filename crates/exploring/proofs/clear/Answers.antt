@@ -1,0 +1,8 @@
+use Prim.Native.Nat.{◌-◌, ◌≤◌}
+use Rattle.exploring.proofs.Memory.{clear_none, clear_more, clear_all}
+use Rattle.exploring.specs.Memory.{Cleared}
+use borrow.Author.Rules.{rules}
+use Rattle.exploring.proofs.clear.Goals as goal
+
+pub loop-node-preserved : goal.loop-node-preserved
+loop-node-preserved c = (search (clear_more, rules), search rules)

@@ -1,0 +1,22 @@
+use Rattle.sheet.proofs.Turns.{kind_begins, at_within, at_turn, at_end}
+use Rattle.convention.specs.Sheets.{sheet_kind_at}
+use mathlib.Core.Path.{◌≡◌}
+use Prim.Native.Nat.{◌≤◌, ◌-◌}
+use native.Mathlib.Omega.{arith}
+use borrow.Author.Rules.{rules}
+use Rattle.sheet.proofs.kind_at.Goals as goal
+
+pub loop-passed-init : goal.loop-passed-init
+loop-passed-init c = (search (kind_begins, rules), search rules)
+
+pub slice_bounds-kind_length-count : goal.slice_bounds-kind_length-count
+slice_bounds-kind_length-count c = search (at_within, rules)
+
+pub slice_bounds-kind_length-start : goal.slice_bounds-kind_length-start
+slice_bounds-kind_length-start c = search (at_within, rules)
+
+pub overflow_add-at : goal.overflow_add-at
+overflow_add-at c = omega (arith, at_within _ _ _ _ _ c.loop-passed.invariant.0 c.requires c.loop-passed.invariant.1)
+
+pub loop-passed-preserved : goal.loop-passed-preserved
+loop-passed-preserved c = (search (at_turn, rules), search rules)
