@@ -1,19 +1,21 @@
 -- One turn of the walk over a list by the rules: what is left gives the rest of the answer and of the records, p is no further than the arguments so far can
 -- take it, and each kind's search may begin where its cursor says.
 use Prim.Native.Nat.{ℕ, ◌+◌, ◌*◌, ◌≤◌, ◌<◌}
-use mathlib.Core.Path.{◌≡◌, refl, ap, ◌∙◌}
+use mathlib.Core.Path.{◌≡◌, refl, sym, subst, ap, ◌∙◌}
 use mathlib.Core.List.{List}
 use native.Mathlib.Omega.{arith}
 use native.Mathlib.Decide.{ℕ_discrete}
 use lib.ListN.{length, get_or, set, replicate, length-set, get_or-replicate}
 use lib.Seq.{get_or-set_same, get_or-set_other}
 use Rattle.convention.specs.declared.Offset.{Offset}
+use Rattle.convention.specs.declared.ByRules.{ByRules}
 use Rattle.convention.specs.declared.Placement.{Placement}
 use Rattle.convention.specs.declared.Sheet.{Sheet}
 use Rattle.convention.specs.Bytes.{written}
 use Rattle.convention.specs.Sheets.{sheet_kind}
 use Rattle.convention.specs.Lists.{record_length, record_of}
 use Rattle.convention.specs.Rules.{place_fault, by_rules, rules_begin}
+use Rattle.convention.specs.Shapes.{p_most}
 use Rattle.convention.proofs.Lists.{known}
 use Rattle.stepping.specs.Walks.{WalkMakes}
 use Rattle.stepping.proofs.Walks.{make_begin, make_room, make_on, make_hit, make_end}
@@ -76,7 +78,10 @@ module _ (sheet : Sheet) (ks before : List ℕ) where
         making_on after z ea = record {
           rest = make_on (by_rules sheet) ks before made (as_rules s) i making.rest after (as_rules next) fault place h asks.room
               (ef ∙ ap place_fault step.step.placed) z step.step.placed ea step.step.reached;
-          reach = rw step.step.reached (omega (arith, making.reach, p_grows sheet.head _ (as_rules s) asks.read.head (asks.read.kind _ kind_known)));
+          reach =
+              let Within : ByRules → Type 0 = λ s'. s'.p.0 ≤ p_most (i + 1) in
+              subst Within (sym step.step.reached)
+              (omega (arith, making.reach, p_grows sheet.head _ (as_rules s) asks.read.head (asks.read.kind _ kind_known)));
           eight = length-set from _ then ∙ making.eight;
           cursors = cursors_on;
         }

@@ -109,7 +109,7 @@ module _ (limit : ℕ) (table : Table) (t : List ℕ) (read : TableRead limit ta
   each_right s (k ∷ ks) good below e zero h = here_right s k good below.0 (or_zero _ _ e).0
   each_right s (k ∷ ks) good below e (suc i) h =
       let both = or_zero ((by_table table t).fault s k) _ e in
-      each_right _ ks (step_walking s k good below.0) below.1 both.1 i (le_of_suc-le-suc h)
+      each_right ((by_table table t).after s k) ks (step_walking s k good below.0) below.1 both.1 i (le_of_suc-le-suc h)
 
   -- A list of known kinds without a faulty step.
   module _ (ks : List ℕ) (below : KindsBelow table.head.kinds ks) (e : fault_from (by_table table t) (by_table table t).begin ks ≡ 0) where

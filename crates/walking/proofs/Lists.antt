@@ -1,15 +1,17 @@
 -- One turn of the walk over a list by a table: it stands in a state of the table, and p is no further than the arguments so far can take it.
 use Prim.Native.Nat.{ℕ, ◌+◌, ◌*◌, ◌<◌, ◌≤◌}
-use mathlib.Core.Path.{◌≡◌, refl, sym, ◌∙◌}
+use mathlib.Core.Path.{◌≡◌, refl, sym, subst, ◌∙◌}
 use mathlib.Core.List.{List}
 use native.Mathlib.Omega.{arith}
 use lib.ListN.{length, get_or}
+use Rattle.convention.specs.declared.ByTable.{ByTable}
 use Rattle.convention.specs.declared.Table.{Table}
 use Rattle.convention.specs.declared.Transition.{Transition}
 use Rattle.convention.specs.declared.Offset.{Offset}
 use Rattle.convention.specs.Lists.{record_length}
 use Rattle.convention.specs.Tables.{table_kind, transition}
 use Rattle.convention.specs.Walked.{by_table, table_place, walk_begin}
+use Rattle.convention.specs.Shapes.{p_most}
 use Rattle.convention.proofs.Lists.{known}
 use Rattle.convention.proofs.Walked.{step_next}
 use Rattle.table.specs.Within.{InTable}
@@ -57,8 +59,12 @@ module _ (table : Table) (t ks before : List ℕ) (asks : WalkAsks table t ks be
               record {
                 makes = make_on (by_table table t) ks before records (as_table s) i standing.makes after (as_table next) fault
                     (table_place table.head x s.p.0) h asks.room found z (rw ex refl) (argument.makes z) reached;
-                state = rw (reached, step_next) (state_inside table t s.state (get_or ks i 0) asks.read next_inside _ refl);
-                reach = rw reached (omega (arith, further, standing.reach));
+                state =
+                    let Inside : ByTable → Type 0 = λ s'. s'.state < table.states in
+                    subst Inside (sym reached) (rw step_next (state_inside table t s.state (get_or ks i 0) asks.read next_inside _ refl));
+                reach =
+                    let Within : ByTable → Type 0 = λ s'. s'.p.0 ≤ p_most (i + 1) in
+                    subst Within (sym reached) (omega (arith, further, standing.reach));
               }
 
           -- At an argument with one.

@@ -1,0 +1,11 @@
+-- `decide`: a failed test, or what the walk found; one law for each.
+use Rattle.placing.proofs.Calls.{list_asks}
+use Rattle.stepping.proofs.Calls.{list_refused, list_short, list_walked}
+use borrow.Author.Rules.{rules}
+use Rattle.placing.proofs.decide.Goals as goal
+
+pub returns-then-tested-ne0 : goal.returns-then-tested-ne0
+returns-then-tested-ne0 c = search (list_refused, rules)
+
+pub returns : goal.returns
+returns c = search (list_walked, rules)

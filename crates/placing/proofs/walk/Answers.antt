@@ -1,0 +1,28 @@
+use Rattle.placing.proofs.Lists.{making_begin, kind_there, next_asks, next_room, making_hit, making_on, making_end}
+use Rattle.placing.specs.RulesSteps.{as_rules, RulesMaking}
+use lib.ListN.{length}
+use Prim.Native.Nat.{◌-◌}
+use lib.Dec.{lit<}
+use borrow.Author.Rules.{rules, Fits-under, scaled_Fits}
+use Rattle.placing.proofs.walk.Goals as goal
+
+pub bounds-sheet-k : goal.bounds-sheet-k
+bounds-sheet-k c = search (kind_there, rules)
+
+pub bounds-from-k : goal.bounds-from-k
+bounds-from-k c = search (kind_there, rules)
+
+pub step_from-tried-requires : goal.step_from-tried-requires
+step_from-tried-requires c = search (next_asks, rules)
+
+pub returns-then-fault-ne0 : goal.returns-then-fault-ne0
+returns-then-fault-ne0 c = search (making_hit, rules)
+
+pub bounds-from-k-in-loop-i : goal.bounds-from-k-in-loop-i
+bounds-from-k-in-loop-i c = search (kind_there, rules)
+
+pub loop-i-preserved : goal.loop-i-preserved
+loop-i-preserved c = search (making_on, rules)
+
+pub returns : goal.returns
+returns c = search (making_end, rules)
