@@ -89,7 +89,7 @@ fn judge_in(table: Table, t: &[u8], twice: u32, work: &mut [u8], out: &mut [u8])
     let nodes = 2 * table.states as usize;
     let end = WORK_BYTES * nodes;
     let at = end - n;
-    bytes::copy(&work[at..end], out);
+    out[..n].copy_from_slice(&work[at..end]);
     let fault = walking::list_fault(table, t, &out[..n]);
     JudgingAnswer::Fault(fault, n)
 }
