@@ -1,0 +1,8 @@
+use Prim.Native.Nat.{◌-◌}
+use Rattle.certifying.specs.Checked.{StatesHold}
+use Rattle.certifying.proofs.Checking.{states_begin, states_ask, states_on, states_end}
+use borrow.Author.Rules.{rules}
+use Rattle.certifying.proofs.check_states.Goals as goal
+
+pub loop-state-preserved : goal.loop-state-preserved
+loop-state-preserved c = search (states_on, rules)
