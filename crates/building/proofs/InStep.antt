@@ -31,7 +31,7 @@ module _ (M N : Steps) (m : ℕ) (Together : M.State → N.State → Type 0) (S 
   unfolding fault_from KindsBelow
   step_fault s u [] t b = refl
   step_fault s u (k ∷ ks) t b = rw (S.fault s u k t b.0) (elim (eq-zero-or-pos (M.fault s k)) [
-    | inl e ↦ ap (or_else (M.fault s k)) (step_fault _ _ ks (S.after s u k t b.0 e) b.1)
+    | inl e ↦ ap (or_else (M.fault s k)) (step_fault (M.after s k) (N.after u k) ks (S.after s u k t b.0 e) b.1)
     | inr f ↦ or_here _ _ f ∙ sym (or_here _ _ f)
   ])
 
@@ -40,7 +40,7 @@ module _ (M N : Steps) (m : ℕ) (Together : M.State → N.State → Type 0) (S 
   unfolding stop_from KindsBelow
   step_stop s u [] t b = refl
   step_stop s u (k ∷ ks) t b = elim (eq-zero-or-pos (M.fault s k)) [
-    | inl e ↦ rw (stop_from, S.fault s u k t b.0, e) (ap suc (step_stop _ _ ks (S.after s u k t b.0 e) b.1))
+    | inl e ↦ rw (stop_from, S.fault s u k t b.0, e) (ap suc (step_stop (M.after s k) (N.after u k) ks (S.after s u k t b.0 e) b.1))
     | inr f ↦ rw (stop_from, S.fault s u k t b.0, ← suc-pred-eq_of_pos f)
   ]
 
@@ -50,7 +50,7 @@ module _ (M N : Steps) (m : ℕ) (Together : M.State → N.State → Type 0) (S 
   unfolding stop_from places_from KindsBelow
   step_before s u [] t b = refl
   step_before s u (k ∷ ks) t b = elim (eq-zero-or-pos (M.fault s k)) [
-    | inl e ↦ rw (stop_from, S.fault s u k t b.0, e, S.place s u k t b.0, step_before _ _ ks (S.after s u k t b.0 e) b.1)
+    | inl e ↦ rw (stop_from, S.fault s u k t b.0, e, S.place s u k t b.0, step_before (M.after s k) (N.after u k) ks (S.after s u k t b.0 e) b.1)
     | inr f ↦ rw (stop_from, S.fault s u k t b.0, ← suc-pred-eq_of_pos f)
   ]
 
@@ -61,7 +61,7 @@ module _ (M N : Steps) (m : ℕ) (Together : M.State → N.State → Type 0) (S 
   step_places s u [] t b e = refl
   step_places s u (k ∷ ks) t b e =
       let both = or_zero (M.fault s k) _ e in
-      rw (S.place s u k t b.0, step_places _ _ ks (S.after s u k t b.0 both.0) b.1 both.1)
+      rw (S.place s u k t b.0, step_places (M.after s k) (N.after u k) ks (S.after s u k t b.0 both.0) b.1 both.1)
 
   -- After it they stand together.
   pub step_state : (s : M.State) (u : N.State) (ks : List ℕ) → Together s u → KindsBelow m ks → fault_from M s ks ≡ 0
@@ -70,7 +70,7 @@ module _ (M N : Steps) (m : ℕ) (Together : M.State → N.State → Type 0) (S 
   step_state s u [] t b e = t
   step_state s u (k ∷ ks) t b e =
       let both = or_zero (M.fault s k) _ e in
-      step_state _ _ ks (S.after s u k t b.0 both.0) b.1 both.1
+      step_state (M.after s k) (N.after u k) ks (S.after s u k t b.0 both.0) b.1 both.1
 
   -- So of a call. Answers that are the same and leave the same memory.
   module _ (t : Together M.begin N.begin) (ks : List ℕ) where

@@ -1,0 +1,7 @@
+-- `decide`: what the exploration answers, from no state met.
+use Rattle.building.proofs.Linking.{nothing_linked}
+use borrow.Author.Rules.{rules}
+use Rattle.building.proofs.decide.Goals as goal
+
+pub explore-met-requires : goal.explore-met-requires
+explore-met-requires c = search (nothing_linked, rules)
