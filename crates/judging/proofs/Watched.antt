@@ -191,7 +191,7 @@ module _ (limit : ℕ) (table : Table) (t : List ℕ) (read : TableRead limit ta
   tied watch s (k ∷ ks) w known e =
       let both = or_zero _ _ e in
       let here = step_clean table.head (table_kind table k) (transition table t s.state k) s.given watch both.0 in
-      let later = tied watch _ ks (step_walking limit table t read s k w known.0) known.1 both.1 in
+      let later = tied watch ((by_table table t).after s k) ks (step_walking limit table t read s k w known.0) known.1 both.1 in
       (known.0, eq-eqb _ 0 (node_fault_lem table t watch s k ∙ here), rw (step_tied s w k known.0 watch) later)
 
   pub tied_along : (watch : Watch) (ks : List ℕ) → KindsBelow table.head.kinds ks → walk_fault table t ks ≡ 0
