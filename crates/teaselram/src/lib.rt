@@ -185,8 +185,7 @@ fn kind_says(shape: Shape, flags: u8, starts: u8, first_start: u16) -> KindAnswe
 }
 
 // Reads a sheet: its head. `states` is 0. `teaselram_sheet_kind` answers the kinds, one by one.
-#[unsafe(no_mangle)]
-pub extern "C" fn teaselram_read_sheet(sheet: &[u8]) -> HeadAnswer
+pub fn teaselram_read_sheet(sheet: &[u8]) -> HeadAnswer
     ensures { result ≡ sheet_says (read_sheet sheet.now) }
 {
     let read = sheet::read_sheet(sheet);
@@ -197,8 +196,7 @@ pub extern "C" fn teaselram_read_sheet(sheet: &[u8]) -> HeadAnswer
 }
 
 // Reads a table: its head and the number of its states. `teaselram_table_kind` answers the kinds, one by one.
-#[unsafe(no_mangle)]
-pub extern "C" fn teaselram_read_table(table: &[u8]) -> HeadAnswer
+pub fn teaselram_read_table(table: &[u8]) -> HeadAnswer
     ensures { result ≡ table_says (read_table state_limit table.now) }
 {
     let read = table::read_table(table);
@@ -211,8 +209,7 @@ pub extern "C" fn teaselram_read_table(table: &[u8]) -> HeadAnswer
 // Asks for one kind of a sheet, by any number: its size, alignment, flags and number of starts, and where in the sheet its
 // first start stands, or would if it has none. Start i of the kind is byte `first_start + i` of the sheet, for each i below
 // `starts`: `start_is` of crates/convention/proofs/Sheets.antt; and these bytes lie within the sheet: `starts_within` there.
-#[unsafe(no_mangle)]
-pub extern "C" fn teaselram_sheet_kind(sheet: &[u8], kind: u64) -> KindAnswer
+pub fn teaselram_sheet_kind(sheet: &[u8], kind: u64) -> KindAnswer
     ensures { result ≡ sheet_kind_says sheet.now kind }
 {
     let read = sheet::read_sheet(sheet);
@@ -232,8 +229,7 @@ pub extern "C" fn teaselram_sheet_kind(sheet: &[u8], kind: u64) -> KindAnswer
 }
 
 // Asks for one kind of a table, by any number: its size and alignment. Every other field is 0.
-#[unsafe(no_mangle)]
-pub extern "C" fn teaselram_table_kind(table: &[u8], kind: u64) -> KindAnswer
+pub fn teaselram_table_kind(table: &[u8], kind: u64) -> KindAnswer
     ensures { result ≡ table_kind_says state_limit table.now kind }
 {
     let read = table::read_table(table);
@@ -250,8 +246,7 @@ pub extern "C" fn teaselram_table_kind(table: &[u8], kind: u64) -> KindAnswer
 }
 
 // Places a list of kinds by the rules of a sheet.
-#[unsafe(no_mangle)]
-pub extern "C" fn teaselram_place_by_rules(sheet: &[u8], kinds: &[u8], out: &mut [u8]) -> Answer
+pub fn teaselram_place_by_rules(sheet: &[u8], kinds: &[u8], out: &mut [u8]) -> Answer
     ensures value { result ≡ answer_of (placing_says (place_by_rules argument_limit sheet.now kinds.now (length out.old))) }
     ensures out_after { out.new ≡ rules_memory argument_limit sheet.now kinds.now out.old }
 {
@@ -260,8 +255,7 @@ pub extern "C" fn teaselram_place_by_rules(sheet: &[u8], kinds: &[u8], out: &mut
 }
 
 // Places a list of kinds by a table.
-#[unsafe(no_mangle)]
-pub extern "C" fn teaselram_place_by_table(table: &[u8], kinds: &[u8], out: &mut [u8]) -> Answer
+pub fn teaselram_place_by_table(table: &[u8], kinds: &[u8], out: &mut [u8]) -> Answer
     ensures value { result ≡ answer_of (placing_says (place_by_table state_limit argument_limit table.now kinds.now (length out.old))) }
     ensures out_after { out.new ≡ table_memory state_limit argument_limit table.now kinds.now out.old }
 {
@@ -270,8 +264,7 @@ pub extern "C" fn teaselram_place_by_table(table: &[u8], kinds: &[u8], out: &mut
 }
 
 // Builds the table of a sheet.
-#[unsafe(no_mangle)]
-pub extern "C" fn teaselram_build(sheet: &[u8], out: &mut [u8]) -> Answer
+pub fn teaselram_build(sheet: &[u8], out: &mut [u8]) -> Answer
     ensures value { result ≡ answer_of (building_says (build state_limit sheet.now (length out.old))) }
     ensures out_after { out.new ≡ build_memory state_limit sheet.now out.old }
 {
@@ -280,8 +273,7 @@ pub extern "C" fn teaselram_build(sheet: &[u8], out: &mut [u8]) -> Answer
 }
 
 // Judges a table.
-#[unsafe(no_mangle)]
-pub extern "C" fn teaselram_judge(table: &[u8], out: &mut [u8]) -> Answer
+pub fn teaselram_judge(table: &[u8], out: &mut [u8]) -> Answer
     ensures { JudgeSays state_limit table.now out.old result out.new }
 {
     let verdict = judging::judge(table, out);
@@ -290,8 +282,7 @@ pub extern "C" fn teaselram_judge(table: &[u8], out: &mut [u8]) -> Answer
 
 // Asks for the row of a state, any number: how long it is, and where it starts in the table. A row is never empty, so an
 // empty part means refused, and a second question answers the number.
-#[unsafe(no_mangle)]
-pub extern "C" fn teaselram_row(table: &[u8], state: u64) -> Answer
+pub fn teaselram_row(table: &[u8], state: u64) -> Answer
     ensures { result ≡ answer_of (row_says state_limit table.now state) }
 {
     let row = table::row(table, state as usize);
