@@ -1,13 +1,14 @@
 // The program of document 01, 'The program': reads one sheet from standard input, builds its table, judges it and prints one
 // line. What that line means is `Prints`, crates/convention/specs/Program.antt.
 #![tactic(auto)]
-ghost use Rattle.std.specs.Prelude.{◌≡◌, ◌≤◌, length};
+ghost use Rattle.std.specs.Prelude.{◌≡◌, ◌≤◌, length, IfOk};
 ghost use Rattle.convention.specs.Numbers.{judging_says};
 ghost use Rattle.convention.specs.Program.{Prints};
 ghost use Rattle.judge_sheet.specs.Texts.{line_room, TextIs, TableLineAsks, TableLine};
 
 use convention::{BuildingAnswer, JudgingAnswer, STATE_LIMIT};
-use libc::{STDIN_FILENO, STDOUT_FILENO};
+use std::io;
+use std::io::{Read, Write};
 
 // `input_limit`: the most bytes of an input that is looked at.
 const INPUT_LIMIT: usize = 1024;
@@ -58,10 +59,26 @@ fn answer(input: &[u8], out: &mut [u8]) -> usize
     }
 }
 
-fn main() {
+// Reads until `input` is full, its first bytes then being those that were read, or the reader's end. Answers how many bytes were
+// read.
+fn read_full<R: Read>(reader: &mut R, input: &mut [u8]) -> io::Result<usize>
+    ensures { IfOk result (λ n. n ≤ length input.new) }
+{
+    let mut done = 0;
+    while done < input.len() {
+        let n = reader.read(&mut input[done..])?;
+        if n == 0 {
+            break;
+        }
+        done += n;
+    }
+    Ok(done)
+}
+
+fn main(rt: HostRuntime) -> io::Result<()> {
     let mut input = [0u8; INPUT_LIMIT + 1];
-    let read = io::read_full(STDIN_FILENO, &mut input);
+    let read = read_full(&mut rt.stdin(), &mut input)?;
     let mut text = [0u8; LINE_ROOM];
     let n = answer(&input[..read], &mut text);
-    io::write_all(STDOUT_FILENO, &text[..n]);
+    rt.stdout().write_all(&text[..n])
 }
