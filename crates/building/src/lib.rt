@@ -1,6 +1,7 @@
 // Building a sheet's table: one exploration of the allocation states decides it, rows and all, and then it is written. Document
 // 01, 'The built table'.
 #![tactic(auto)]
+
 mod memory;
 mod writer;
 

@@ -3,6 +3,7 @@
 // checked transition by transition: only the check is relied on. See specs/Certified.antt for what it finds, and
 // proofs/Certified.antt for what that says of lists.
 #![tactic(auto)]
+
 mod filling;
 
 ghost use Rattle.std.specs.Prelude.{◌≡◌};

@@ -4,6 +4,7 @@
 // No function knows what is explored: whatever entries the memory holds, of whatever automaton, it holds those afterwards that
 // the definitions make of them.
 #![tactic(auto)]
+
 mod words;
 
 ghost use Rattle.std.specs.Prelude.{◌≡◌, ◌<◌};

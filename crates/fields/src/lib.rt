@@ -1,6 +1,7 @@
 // What both readers use: a byte or 0, a field and its number, the opening of a file, a kind's shape, the number of a state.
 // Each answers the number of the first thing that is wrong, 0 where nothing is: document 01's 'left to right'.
 #![tactic(auto)]
+
 pub mod layout;
 pub mod shapes;
 

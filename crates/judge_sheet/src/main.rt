@@ -1,6 +1,7 @@
 // The program of document 01, 'The program': reads one sheet from standard input, builds its table, judges it and prints one
 // line. What that line means is `Prints`, crates/convention/specs/Program.antt.
 #![tactic(auto)]
+
 ghost use Rattle.std.specs.Prelude.{◌≡◌, ◌≤◌, length, IfOk};
 ghost use Rattle.convention.specs.Numbers.{judging_says};
 ghost use Rattle.convention.specs.Program.{Prints};

@@ -2,6 +2,7 @@
 // searched: nothing is watched, and then one register at a time of those that may be given twice, and the least of the lists that
 // are found is the answer. See specs/Watched.antt for what is searched, and proofs/ for why it is the verdict.
 #![tactic(auto)]
+
 mod lists;
 mod search;
 mod steps;

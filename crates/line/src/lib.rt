@@ -1,6 +1,7 @@
 // The line that the program prints: document 01, 'The program'. Each `put_` function appends a field at byte `at` of `out` and
 // answers where the next one goes.
 #![tactic(auto)]
+
 ghost use Rattle.std.specs.Prelude.{[], ◌∷◌};
 ghost use Rattle.convention.specs.Program.{decimal, further, kind_fields, verdict_fields, refused_line, line};
 ghost use Rattle.line.specs.Appended.{FieldRoom, Appended};

@@ -1,5 +1,6 @@
 // Placing by the rules: one search of a kind's starts, one argument, a list. Document 01, 'Placing by the rules'.
 #![tactic(auto)]
+
 ghost use Rattle.std.specs.Prelude.{◌≡◌, length};
 ghost use Rattle.convention.specs.Numbers.{argument_limit};
 ghost use Rattle.convention.specs.Promised.{SheetRead};

@@ -2,6 +2,7 @@
 // first; the values are taken only from a sheet of which nothing is wrong. Each kind is parsed from the part of the sheet
 // that starts at its first byte.
 #![tactic(auto)]
+
 ghost use Rattle.std.specs.Prelude.{◌≡◌, true, ◌++◌, ◌+◌, ◌-◌, ◌≤◌, length, take, drop, replicate};
 ghost use Rattle.convention.specs.Layout.{kinds_at};
 ghost use Rattle.convention.specs.Fields.{is_width};

@@ -1,6 +1,7 @@
 // What placing by the rules and placing by a table have in common: sets and runs of registers, the least offset, the tests of a
 // list's length, room and kinds, what a walk decides and how that is written, a placement's record, and what a placement takes.
 #![tactic(auto)]
+
 ghost use Rattle.std.specs.Prelude.{◌≡◌, ◌+◌, ◌%◌, ◌≤◌, ◌<◌, ◌^◌, true, length, take};
 ghost use Rattle.convention.specs.Fields.{is_modulus};
 ghost use Rattle.convention.specs.Offsets.{IsLeast, least_offset};

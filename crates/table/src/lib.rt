@@ -2,6 +2,7 @@
 // that is wrong is found first; the values are taken only from a table of which nothing is wrong. The rows stay where they
 // are, in the caller's bytes.
 #![tactic(auto)]
+
 ghost use Rattle.std.specs.Prelude.{◌≡◌, ◌++◌, ◌+◌, ◌-◌, ◌*◌, ◌≤◌, length, drop, replicate};
 ghost use Rattle.convention.specs.Numbers.{state_limit, or_else};
 ghost use Rattle.convention.specs.Layout.{kinds_at, rows_at, transition_length, transition_at, table_length};

@@ -2,6 +2,7 @@
 // Each answer is one of three structs of eight bytes, by value: 01's number, 0 on success, and the values that 01 names for the
 // answer; every other field is 0.
 #![tactic(auto)]
+
 ghost use Rattle.std.specs.Prelude.{◌≡◌, ◌<◌, ◌^◌, length};
 ghost use Rattle.convention.specs.Numbers.{state_limit, argument_limit, reading_no, placing_says, building_says, judging_says};
 ghost use Rattle.convention.specs.Built.{build, build_memory};

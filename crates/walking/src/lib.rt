@@ -1,5 +1,6 @@
 // Placing by a table: one step with its fault, then a list. Document 01, 'Placing by a table'.
 #![tactic(auto)]
+
 ghost use Rattle.std.specs.Prelude.{◌≡◌, true, ◌+◌, ◌≤◌, length};
 ghost use Rattle.convention.specs.Numbers.{state_limit, argument_limit};
 ghost use Rattle.convention.specs.Fields.{is_width, is_modulus};
