@@ -1,4 +1,4 @@
-// The static library: the calls of document 01 for C and Rust. A slice is a pointer and a length; nothing is written but `out`.
+// The boundary: the calls of document 01, which crates/teaselram_c exports for C and Rust. Nothing is written but `out`.
 // Each answer is one of three structs of eight bytes, by value: 01's number, 0 on success, and the values that 01 names for the
 // answer; every other field is 0.
 #![tactic(auto)]
