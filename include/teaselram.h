@@ -19,11 +19,10 @@
  *     uint8_t none = 0;
  *     answer = teaselram_place_by_table(table, table_len, len ? kinds : &none, len, len ? out : &none, len * 6);
  *
- * What to link: target/staticlib/libteaselram.a, which `rt staticlib teaselram` writes. It is position-independent code
+ * What to link: target/staticlib/libteaselram.a, which `tools/build` writes. It is position-independent code
  * for x86-64 Linux, and needs of its host memcpy, memset and TEASELRAM_MOST_STACK bytes of stack, nothing else. The kit
- * writes no code for Arm. There the tests link target/emulated/libteaselram.a, which `tests/emulated/build` makes: it
- * has the same calls, and the x86-64 code answers each in a second process under the kit's emulator. It is a way to
- * test and no product. A whole x86-64 program with the real library in it runs on Arm by `tests/emulated/run PROGRAM`.
+ * writes code for no other processor. target/emulated/libteaselram.a, which `tests/emulated/build` makes, has the same
+ * calls and answers each in a second process. It is a way to test and no product.
  */
 #ifndef TEASELRAM_H
 #define TEASELRAM_H

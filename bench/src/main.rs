@@ -1,5 +1,5 @@
-//! The proved library's times beside those of plain Rust programs that do the same, as tables of ratios: `bench/run`, on x86-64
-//! or on Arm. Before anything is timed, both are seen to answer and write the same.
+//! The proved library's times beside those of plain Rust programs that do the same, as tables of ratios: `bench/run`.
+//! Before anything is timed, both are seen to answer and write the same.
 
 mod building;
 mod inputs;

@@ -1,11 +1,10 @@
 /*
  * Reads sheet S and its kinds, builds its table, judges it, and places lists of arguments by it, the empty one too; then
- * shows what a faulty table looks like. From the top of the repository, after `rt staticlib teaselram`, on x86-64:
+ * shows what a faulty table looks like. From the top of the repository, after `tools/build`, on x86-64:
  *
  *   gcc -std=c99 -Iinclude -o target/build_judge_place examples/c/build_judge_place.c target/staticlib/libteaselram.a
  *
- * That archive is x86-64 code. To try this on Arm, run `tests/emulated/build` and link target/emulated/libteaselram.a in its
- * place: it hands each call to the x86-64 code under the kit's emulator, as the tests do there.
+ * That archive is x86-64 code.
  */
 #include <stdio.h>
 #include <string.h>

@@ -1,12 +1,12 @@
-//! Links the static library that `rt staticlib teaselram` writes at the top of the repository. Its code is for x86-64; for any
-//! other processor links the calls that `tests/emulated/build` makes, which run it under the kit's emulator. Those are linked
+//! Links the static library that `tools/build` writes at the top of the repository. Its code is for x86-64; for any
+//! other processor links the calls that `tests/emulated/build` makes, which hand each to it in a second process. Those are linked
 //! on x86-64 too where TEASELRAM_EMULATED is set. Where TEASELRAM_NATIVE is, links what `bench/native` makes for this machine's
 //! own processor, for timing alone.
 use std::{env, fs, path::PathBuf};
 
 fn main() {
     let mut folder = "target/staticlib";
-    let proved = written(folder, "libteaselram.a", "rt staticlib teaselram");
+    let proved = written(folder, "libteaselram.a", "tools/build");
     println!("cargo:rerun-if-env-changed=TEASELRAM_EMULATED");
     println!("cargo:rerun-if-env-changed=TEASELRAM_NATIVE");
     let x86_64 = env::var("CARGO_CFG_TARGET_ARCH").unwrap() == "x86_64";

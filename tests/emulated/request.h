@@ -1,5 +1,5 @@
 /*
- * A request and its reply, as they go between forward.c on this machine and serve.c under the emulator.
+ * A request and its reply, as they go between forward.c and serve.c, which runs in a second process.
  * A request: struct request, the bytes of the file, those of the kinds, and `out` as it is before the call.
  * A reply: the eight bytes of the answer, and `out` as it is after the call.
  */

@@ -1,6 +1,6 @@
 /*
  * The proved library, served to programs for another processor: reads requests from standard input, makes each call and
- * writes its reply to standard output, until the input ends. It is x86-64 code and runs under the kit's emulator;
+ * writes its reply to standard output, until the input ends. It is x86-64 code;
  * tests/emulated/build links it with the library and puts it into the archive that sends the requests.
  *
  * The tests cannot see this memory, so what they see elsewhere is held here: a call that touches a byte after a slice gets

@@ -1,5 +1,5 @@
-//! What the tests run on this machine. The kit writes code for x86-64 alone, so the tests link and run that code as it is on
-//! x86-64. On any other processor it runs under the kit's emulator, by what stands in tests/emulated.
+//! What the tests run on this machine. The kit is for x86-64 alone, so the tests link and run its code as it is, or call it in a
+//! second process, by what stands in tests/emulated.
 
 use std::env;
 use std::path::{Path, PathBuf};
@@ -17,7 +17,7 @@ pub const PROVED: &str = "target/staticlib/libteaselram.a";
 pub const WARNINGS: [&str; 4] = ["-Wall", "-Wextra", "-Wpedantic", "-Werror"];
 
 /// The archive with the calls of include/teaselram.h that this machine's programs link: the proved library itself, or
-/// the calls that send each request to it under the emulator. `rust/teaselram/build.rs` links the same.
+/// the calls that send each request to it in a second process. `rust/teaselram/build.rs` links the same.
 pub fn archive() -> PathBuf {
     let archive = if is_emulated() {
         "target/emulated/libteaselram.a"
@@ -45,7 +45,7 @@ pub fn program(name: &str) -> Command {
     let program = top().join("target/bin").join(name);
     assert!(
         program.exists(),
-        "target/bin/{name} is missing: run `rt check {name}` first"
+        "target/bin/{name} is missing: run `tools/build` first"
     );
     let mut command = Command::new(top().join("tests/emulated/run"));
     command.arg(program);
