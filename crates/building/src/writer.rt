@@ -96,7 +96,7 @@ pub(crate) fn copy_rows(rows: &[u8], len: usize, out: &mut [u8], at: usize)
     requires { CopyAsks rows.now len out.old at }
     ensures { out.new ≡ written out.old at (take len rows.now) }
 {
-    out[at..at + len].copy_from_slice(&rows[..len]);
+    fields::copy(&rows[..len], &mut out[at..]);
 }
 
 // Writes the kinds' shapes, after the opening.

@@ -1,11 +1,12 @@
 // What both readers use: a byte or 0, a field and its number, the opening of a file, a kind's shape, the number of a state.
 // Each answers the number of the first thing that is wrong, 0 where nothing is: document 01's 'left to right'.
+// Beside them stands the copy of bytes by which all output is written.
 #![tactic(auto)]
 
 pub mod layout;
 pub mod shapes;
 
-ghost use Rattle.std.specs.Prelude.{◌≡◌, ◌+◌, ◌≤◌, length, get_or};
+ghost use Rattle.std.specs.Prelude.{◌≡◌, ◌+◌, ◌≤◌, ◌++◌, length, get_or, take, drop};
 ghost use Rattle.convention.specs.Numbers.{or_else, unless as unlessPasses};
 ghost use Rattle.convention.specs.Layout.{state_length};
 ghost use Rattle.convention.specs.Fields.{field_no, length_no, version_of, head_of, head_no, opening_no, is_width, is_modulus, state_field, left_over_no};
@@ -137,4 +138,15 @@ pub fn left_over_no(s: &[u8], n: usize) -> u8
     ensures { result ≡ left_over_no s.now n }
 {
     if s.len() <= n { 0 } else { 6 }
+}
+
+// Copies `from` to the first bytes of `to`; those after them stay. A loop, which becomes a `memcpy`: `copy_from_slice` would ask the
+// host for `memmove` too.
+pub fn copy(from: &[u8], to: &mut [u8])
+    requires { length from.now ≤ length to.old }
+    ensures { to.new ≡ take (length from.now) from.now ++ drop (length from.now) to.old }
+{
+    for i in 0..from.len() {
+        to[i] = from[i];
+    }
 }

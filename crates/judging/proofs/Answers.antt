@@ -79,7 +79,7 @@ module _ (table : Table) (t before out : List ℕ) (inside : JudgeInAsks table t
     -- Some watched walk hits, and the least list was copied to the front of `out`.
     module _ (some : n ≡ 0 → ⊥) (part out' : List ℕ)
         (ep : part ≡ take (best_end (nodes table) - (best_end (nodes table) - n)) (drop (best_end (nodes table) - n) work))
-        (eo : out' ≡ part ++ drop n out) where
+        (eo : out' ≡ take (length part) part ++ drop (length part) out) where
       abbrev list : List ℕ
       list = list_at work (best_end (nodes table)) n
 
@@ -91,7 +91,7 @@ module _ (table : Table) (t before out : List ℕ) (inside : JudgeInAsks table t
       front : out' ≡ list ++ drop n out
       front =
           let same : part ≡ list = ep ∙ sym (slice_take (best_end (nodes table) - n) (best_end (nodes table)) work) in
-          eo ∙ rw same
+          eo ∙ rw (same, take-length list, long)
 
       take_front : take n out' ≡ list
       take_front = rw front (take_at list (drop n out) n long)

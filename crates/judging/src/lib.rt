@@ -90,7 +90,7 @@ fn judge_in(table: Table, t: &[u8], twice: u32, work: &mut [u8], out: &mut [u8])
     let nodes = 2 * table.states as usize;
     let end = WORK_BYTES * nodes;
     let at = end - n;
-    out[..n].copy_from_slice(&work[at..end]);
+    fields::copy(&work[at..end], out);
     let fault = walking::list_fault(table, t, &out[..n]);
     JudgingAnswer::Fault(fault, n)
 }

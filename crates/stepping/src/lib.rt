@@ -170,7 +170,7 @@ pub fn write(decided: Decided, records: &[u8], out: &mut [u8])
     ensures { out.new ≡ written out.old 0 (take decided.bytes records.now) }
 {
     let end = decided.bytes;
-    out[..end].copy_from_slice(&records[..end]);
+    fields::copy(&records[..end], out);
 }
 
 // What a placement is made of. That a first register is a byte is said here, since its number has room for an offset.

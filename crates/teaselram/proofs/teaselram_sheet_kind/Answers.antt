@@ -15,7 +15,7 @@ pub returns-then-number-ne0 : goal.returns-then-number-ne0
 returns-then-number-ne0 c = search (sheet_kind_refused, rules)
 
 pub bounds-kinds-kind : goal.bounds-kinds-kind
-bounds-kinds-kind c = sheet_kind_below _ _ _ _ c.read_sheet-read.ensures c.asked_no-number.ensures c.if-number-ne0.false
+bounds-kinds-kind c = omega (arith, sheet_kind_below _ _ _ _ c.read_sheet-read.ensures c.asked_no-number.ensures c.if-number-ne0.false)
 
 pub kind_at-at-requires : goal.kind_at-at-requires
 kind_at-at-requires c = search (sheet_kind_there, rules)

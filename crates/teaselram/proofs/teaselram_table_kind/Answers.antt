@@ -9,7 +9,7 @@ pub returns-then-number-ne0 : goal.returns-then-number-ne0
 returns-then-number-ne0 c = search (table_kind_refused, rules)
 
 pub bounds-shapes-kind : goal.bounds-shapes-kind
-bounds-shapes-kind c = table_kind_below _ _ _ _ c.read_table-read.ensures c.asked_no-number.ensures c.if-number-ne0.false
+bounds-shapes-kind c = omega (arith, table_kind_below _ _ _ _ c.read_table-read.ensures c.asked_no-number.ensures c.if-number-ne0.false)
 
 pub returns : goal.returns
 returns c = search (table_kind_given, rules)
