@@ -13,7 +13,7 @@ use Rattle.convention.specs.declared.Reading.{Reading}
 use Rattle.convention.specs.declared.SheetAnswer.{SheetAnswer}
 use Rattle.convention.specs.declared.BuildingAnswer.{BuildingAnswer}
 use Rattle.convention.specs.declared.BuildingAnswer.TheVariants.{Built}
-use Rattle.convention.specs.Numbers.{state_limit, or_else, unless, reading}
+use Rattle.convention.specs.Numbers.{state_limit, or_else, unless}
 use Rattle.convention.specs.Bytes.{written}
 use Rattle.convention.specs.Sheets.{read_sheet}
 use Rattle.convention.specs.Layout.{table_length}

@@ -1,5 +1,5 @@
 -- Document 01, 'Examples to settle the reading': P1 to P12, each through bytes. What stands here is 01's text; proofs/Hold.antt holds the definitions to it.
-use Rattle.std.specs.Prelude.{ℕ, zero, suc, ◌+◌, ◌*◌, Bool, true, false, ◌&&◌, List, [], ◌∷◌, ◌++◌, eqb, length, replicate}
+use Rattle.std.specs.Prelude.{ℕ, zero, suc, ◌*◌, Bool, true, false, ◌&&◌, List, [], ◌∷◌, ◌++◌, eqb, length, replicate}
 use Rattle.convention.specs.Numbers.{Said, refusal, state_limit, argument_limit, placing_says, judging_says}
 use Rattle.convention.specs.Sheets.{sheet_of}
 use Rattle.convention.specs.Tables.{table_no, table_of, row_no, row}

@@ -1,5 +1,5 @@
 -- Document 01, demand 3 and 'Placing by a table': faulty lists and the verdict.
-use Rattle.std.specs.Prelude.{ℕ, zero, suc, ◌+◌, ◌*◌, ◌<◌, ◌≤◌, ◌≡◌, List, [], ◌∷◌, ◌++◌, map, leb, length, take, drop}
+use Rattle.std.specs.Prelude.{ℕ, zero, suc, ◌*◌, ◌<◌, ◌≤◌, ◌≡◌, List, [], ◌∷◌, ◌++◌, map, leb, length, take, drop}
 use Rattle.convention.specs.declared.JudgingAnswer.{JudgingAnswer}
 use Rattle.convention.specs.declared.JudgingAnswer.TheVariants.{Clean, Fault}
 use Rattle.convention.specs.Numbers.{or_else, unless}

@@ -3,7 +3,7 @@
 --
 -- How to read a line: `A ↔ B` is A exactly when B; `A × B` A and B; `A ⊎ B` A or B; `A → ⊥` not A; `A → B` B where A holds; `(x : T) → A` A for every x; `(x : T) × A` A for some
 -- x; `a ≡ b` that a is b; `a ∷ b ∷ []` the list of a and b; `get_or l i d` what stands at i in the list l, d past its end; `take n l` its first n, `drop n l` the others; `x.f` field
--- f of x. `sheet_no s` and `table_no state_limit t` are the number that reading gives, 0 where the file can be read; `sheet_of s` and `table_of t` what was read; `..Says answer.number`
+-- f of x. `sheet_no s` and `table_no state_limit t` are the number that reading gives, 0 where the file can be read; `sheet_of s` and `table_of t` what was read; `(.._says answer).number`
 -- an answer's number, 0 on success. `state_limit` is 200, `argument_limit` 400, `record_length` 6.
 --
 -- Which definition is which call's, by its contract (docs/CONTRACTS.md): read_sheet `read_sheet`, read_table `read_table`, row `row` with `row_no`, place_by_rules `place_by_rules` with

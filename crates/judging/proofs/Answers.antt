@@ -13,7 +13,7 @@ use Rattle.convention.specs.declared.TableAnswer.{TableAnswer}
 use Rattle.convention.specs.declared.Reading.{Reading}
 use Rattle.convention.specs.declared.JudgingAnswer.{JudgingAnswer}
 use Rattle.convention.specs.declared.JudgingAnswer.TheVariants.{Clean, Fault}
-use Rattle.convention.specs.Numbers.{state_limit, reading}
+use Rattle.convention.specs.Numbers.{state_limit}
 use Rattle.convention.specs.Tables.{table_no, table_of, read_table}
 use Rattle.convention.specs.Lists.{fault_from}
 use Rattle.convention.specs.Walked.{by_table, walk_begin}

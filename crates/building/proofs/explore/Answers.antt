@@ -1,7 +1,4 @@
-use Prim.Native.Nat.{◌-◌}
-use Rattle.convention.specs.Numbers.{state_limit}
-use Rattle.building.specs.Holding.{Exploring}
-use Rattle.building.proofs.Meeting.{exploring_begin, exploring_over, state_asks, exploring_on, exploring_end}
+use Rattle.building.proofs.Meeting.{exploring_begin, exploring_over, exploring_on, exploring_end}
 use borrow.Author.Rules.{rules}
 use Rattle.building.proofs.explore.Goals as goal
 

@@ -2,8 +2,6 @@
 use Prim.Native.Nat.{◌-◌}
 use Rattle.convention.specs.Numbers.{state_limit}
 use Rattle.building.specs.Holding.{Exploring}
-use Rattle.building.proofs.Meeting.{exploring_begin, exploring_over, state_asks, exploring_on, exploring_end}
-use borrow.Author.Rules.{rules}
 use Rattle.building.proofs.explore.Given as goal
 
 abbrev pub invariant-loop-i : goal.invariant-loop-i

@@ -1,5 +1,3 @@
-use Prim.Native.Nat.{◌-◌}
-use Rattle.building.specs.Holding.{PassingKinds}
 use Rattle.building.proofs.Leading.{lead_asks}
 use Rattle.building.proofs.Meeting.{passing_begin, cell_there, passing_on, passing_end}
 use native.Mathlib.Omega.{arith}

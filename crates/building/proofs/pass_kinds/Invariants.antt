@@ -1,10 +1,6 @@
 -- `pass_kinds`: before kind k the states kept are those met by the kinds below k, and their transitions are made.
 use Prim.Native.Nat.{◌-◌}
 use Rattle.building.specs.Holding.{PassingKinds}
-use Rattle.building.proofs.Leading.{lead_asks}
-use Rattle.building.proofs.Meeting.{passing_begin, cell_there, passing_on, passing_end}
-use native.Mathlib.Omega.{arith}
-use borrow.Author.Rules.{rules}
 use Rattle.building.proofs.pass_kinds.Given as goal
 
 abbrev pub invariant-loop-k : goal.invariant-loop-k

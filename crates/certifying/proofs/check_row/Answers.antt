@@ -1,9 +1,6 @@
-use Prim.Native.Nat.{◌-◌}
-use lib.Dec.{lit<}
 use Rattle.table.proofs.Rows.{transition_there}
-use Rattle.certifying.specs.Checked.{RowIs}
-use Rattle.certifying.proofs.Checking.{row_begin, row_inside, row_kind, row_next, row_there, row_asks, row_on, row_end}
-use borrow.Author.Rules.{rules, Fits-under, scaled_Fits}
+use Rattle.certifying.proofs.Checking.{row_inside, row_there, row_on}
+use borrow.Author.Rules.{rules}
 use Rattle.certifying.proofs.check_row.Goals as goal
 
 pub transition_of-x-requires : goal.transition_of-x-requires

@@ -1,6 +1,4 @@
-use Prim.Native.Nat.{◌-◌}
-use Rattle.certifying.specs.Checked.{StatesHold}
-use Rattle.certifying.proofs.Checking.{states_begin, states_ask, states_on, states_end}
+use Rattle.certifying.proofs.Checking.{states_on}
 use borrow.Author.Rules.{rules}
 use Rattle.certifying.proofs.check_states.Goals as goal
 

@@ -1,8 +1,6 @@
 -- `check_states`: before a state those below it hold.
 use Prim.Native.Nat.{◌-◌}
 use Rattle.certifying.specs.Checked.{StatesHold}
-use Rattle.certifying.proofs.Checking.{states_begin, states_ask, states_on, states_end}
-use borrow.Author.Rules.{rules}
 use Rattle.certifying.proofs.check_states.Given as goal
 
 abbrev pub invariant-loop-state : goal.invariant-loop-state

@@ -1,6 +1,4 @@
-use Prim.Native.Nat.{◌-◌, ◌≤◌}
-use Rattle.exploring.proofs.Memory.{clear_none, clear_more, clear_all}
-use Rattle.exploring.specs.Memory.{Cleared}
+use Rattle.exploring.proofs.Memory.{clear_more}
 use borrow.Author.Rules.{rules}
 use Rattle.exploring.proofs.clear.Goals as goal
 

@@ -1,8 +1,6 @@
 -- `clear`: the marks below `node` are 0, at each turn.
 use Prim.Native.Nat.{◌-◌, ◌≤◌}
-use Rattle.exploring.proofs.Memory.{clear_none, clear_more, clear_all}
 use Rattle.exploring.specs.Memory.{Cleared}
-use borrow.Author.Rules.{rules}
 use Rattle.exploring.proofs.clear.Given as goal
 
 abbrev pub invariant-loop-node : goal.invariant-loop-node

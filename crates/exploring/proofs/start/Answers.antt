@@ -1,5 +1,5 @@
 -- `start`: where every mark is 0 the first entry is appended.
-use Rattle.exploring.proofs.Meeting.{start_appends, started_is}
+use Rattle.exploring.proofs.Meeting.{started_is}
 use borrow.Author.Rules.{rules}
 use Rattle.exploring.proofs.start.Goals as goal
 

@@ -1,5 +1,4 @@
-use Rattle.exploring.proofs.Paths.{path_begin, path_long, path_read, path_room, path_less, path_turn, path_end}
-use Rattle.exploring.specs.Stored.{PathHalf}
+use Rattle.exploring.proofs.Paths.{path_begin, path_less, path_turn, path_end}
 use borrow.Author.Rules.{rules}
 use Rattle.exploring.proofs.write_path.Goals as goal
 

@@ -1,7 +1,5 @@
 -- `write_path`: what is written, after the path to entry i, is the path to the entry asked for, at each turn.
-use Rattle.exploring.proofs.Paths.{path_begin, path_long, path_read, path_room, path_less, path_turn, path_end}
 use Rattle.exploring.specs.Stored.{PathHalf}
-use borrow.Author.Rules.{rules}
 use Rattle.exploring.proofs.write_path.Given as goal
 
 abbrev pub invariant-loop-i : goal.invariant-loop-i

@@ -1,6 +1,5 @@
 -- `head_no`: its four fields are those of `head_no`, by what each call answers.
 use Rattle.convention.specs.Fields.{head_no, head_of}
-use borrow.Author.Rules.{rules}
 use Rattle.fields.proofs.head_no.Goals as goal
 
 pub returns : goal.returns

@@ -1,6 +1,5 @@
 -- `head_of`: four bytes, each by what `byte_at` answers.
 use Rattle.convention.specs.Fields.{head_of}
-use borrow.Author.Rules.{rules}
 use Rattle.fields.proofs.head_of.Goals as goal
 
 pub returns : goal.returns

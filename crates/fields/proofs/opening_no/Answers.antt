@@ -1,6 +1,5 @@
 -- `opening_no`: the numbers of `opening_no` in turn, by what each call answers.
 use Rattle.convention.specs.Fields.{opening_no}
-use borrow.Author.Rules.{rules}
 use Rattle.fields.proofs.opening_no.Goals as goal
 
 pub returns : goal.returns

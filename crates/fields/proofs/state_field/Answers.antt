@@ -1,5 +1,4 @@
 -- `state_field`: one byte, which is there.
-use native.Mathlib.Omega.{arith}
 use Rattle.convention.specs.Layout.{state_length}
 use Rattle.convention.specs.Fields.{state_field}
 use borrow.Author.Rules.{rules}

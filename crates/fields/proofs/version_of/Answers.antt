@@ -1,6 +1,5 @@
 -- `version_of`: one byte, by what `byte_at` answers.
 use Rattle.convention.specs.Fields.{version_of}
-use borrow.Author.Rules.{rules}
 use Rattle.fields.proofs.version_of.Goals as goal
 
 pub returns : goal.returns

@@ -1,5 +1,5 @@
 -- `find_list`: the search stops at the first hit, whose entry's path and kind make its list.
-use Rattle.judging.proofs.Finding.{find_starts, find_searches, find_none, find_founds, find_some}
+use Rattle.judging.proofs.Finding.{find_searches, find_none, find_founds, find_some}
 use borrow.Author.Rules.{rules}
 use Rattle.judging.proofs.find_list.Goals as goal
 

@@ -1,5 +1,5 @@
 -- `first_list`: what is found where nothing is watched is the least while no register is.
-use Rattle.judging.proofs.Best.{first_watches, first_keeps, best_first}
+use Rattle.judging.proofs.Best.{first_watches, best_first}
 use borrow.Author.Rules.{rules}
 use Rattle.judging.proofs.first_list.Goals as goal
 

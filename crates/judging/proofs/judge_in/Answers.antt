@@ -1,5 +1,5 @@
 -- `judge_in`: the least list decides, and its first faulty step tells its fault.
-use Rattle.judging.proofs.Answers.{judge_finds, judge_clean, judge_counts, judge_walks, judge_fault}
+use Rattle.judging.proofs.Answers.{judge_finds, judge_clean, judge_walks, judge_fault}
 use borrow.Author.Rules.{rules}
 use Rattle.judging.proofs.judge_in.Goals as goal
 

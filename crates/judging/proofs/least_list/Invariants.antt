@@ -2,9 +2,7 @@
 use Prim.Native.Nat.{◌-◌, ◌≤◌}
 use mathlib.Core.Path.{◌≡◌}
 use lib.ListN.{length}
-use Rattle.judging.proofs.Best.{next_asks, best_end_lem}
 use Rattle.judging.specs.Found.{BestIs}
-use borrow.Author.Rules.{rules}
 use Rattle.judging.proofs.least_list.Given as goal
 
 abbrev pub invariant-loop-i : goal.invariant-loop-i

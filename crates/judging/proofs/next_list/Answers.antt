@@ -1,5 +1,5 @@
 -- `next_list`: a register that is never given twice is passed over, and another is watched.
-use Rattle.judging.proofs.Best.{next_within, best_skips, best_finds, best_watches, best_lists, best_turn}
+use Rattle.judging.proofs.Best.{best_skips, best_finds, best_watches, best_turn}
 use borrow.Author.Rules.{rules}
 use Rattle.judging.proofs.next_list.Goals as goal
 

@@ -1,7 +1,6 @@
 -- `put_built`: the two numbers, the verdict and the line feed in a row are the line.
 use mathlib.Core.Path.{refl}
 use native.Mathlib.Omega.{arith}
-use borrow.Author.Rules.{rules}
 use Rattle.convention.specs.Program.{line}
 use Rattle.line.proofs.Appending.{four}
 use Rattle.line.proofs.Lengths.{built_fits}

@@ -1,7 +1,6 @@
 -- `put_fault`: the word, the two numbers and the kinds in a row are the fields of a fault.
 use mathlib.Core.Path.{refl}
 use native.Mathlib.Omega.{arith}
-use borrow.Author.Rules.{rules}
 use Rattle.convention.specs.Program.{verdict_fields}
 use Rattle.line.proofs.Appending.{four}
 use Rattle.line.proofs.Lengths.{fault_fits}

@@ -1,10 +1,5 @@
-use Prim.Native.Nat.{◌-◌}
-use native.Mathlib.Omega.{arith}
-use lib.ListN.{length, drop}
 use borrow.Author.Rules.{rules}
-use Rattle.convention.specs.Program.{kind_fields}
-use Rattle.line.specs.Appended.{FieldRest}
-use Rattle.line.proofs.Appending.{kinds, items_begin, item_room, item_on, items_end}
+use Rattle.line.proofs.Appending.{kinds, item_room, item_on, items_end}
 use Rattle.line.proofs.put_kinds.Goals as goal
 
 pub put_number-next-requires : goal.put_number-next-requires

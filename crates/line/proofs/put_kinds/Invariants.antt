@@ -1,11 +1,8 @@
 -- `put_kinds`: the items are the kinds' fields; with those that are left appended all are.
 use Prim.Native.Nat.{◌-◌}
-use native.Mathlib.Omega.{arith}
 use lib.ListN.{length, drop}
-use borrow.Author.Rules.{rules}
 use Rattle.convention.specs.Program.{kind_fields}
 use Rattle.line.specs.Appended.{FieldRest}
-use Rattle.line.proofs.Appending.{kinds, items_begin, item_room, item_on, items_end}
 use Rattle.line.proofs.put_kinds.Given as goal
 
 abbrev pub invariant-loop-i : goal.invariant-loop-i

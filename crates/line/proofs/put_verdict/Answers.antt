@@ -1,6 +1,6 @@
 -- `put_verdict`: in each arm, the fields of the case that the verdict is known to be.
 use borrow.Author.Rules.{rules}
-use Rattle.line.proofs.Cases.{clean_room, clean_done, fault_room, fault_done, unjudged_done}
+use Rattle.line.proofs.Cases.{clean_room, clean_done, unjudged_done}
 use Rattle.line.proofs.put_verdict.Goals as goal
 
 pub put_word-requires : goal.put_word-requires

@@ -1,8 +1,5 @@
-use Prim.Native.Nat.{◌-◌}
-use lib.ListN.{length, drop}
 use borrow.Author.Rules.{rules}
-use Rattle.line.specs.Appended.{FieldRest}
-use Rattle.line.proofs.Appending.{bytes, items_begin, item_room, item_on, items_end}
+use Rattle.line.proofs.Appending.{bytes, item_on, items_end}
 use Rattle.line.proofs.put_word.Goals as goal
 
 pub loop-i-preserved : goal.loop-i-preserved

@@ -1,9 +1,7 @@
 -- `put_word`: the items of a word are its bytes; with those that are left appended the whole word is.
 use Prim.Native.Nat.{◌-◌}
 use lib.ListN.{length, drop}
-use borrow.Author.Rules.{rules}
 use Rattle.line.specs.Appended.{FieldRest}
-use Rattle.line.proofs.Appending.{bytes, items_begin, item_room, item_on, items_end}
 use Rattle.line.proofs.put_word.Given as goal
 
 abbrev pub invariant-loop-i : goal.invariant-loop-i

@@ -1,6 +1,5 @@
 -- `decide`: a failed test, or what the walk found; one law for each.
-use Rattle.placing.proofs.Calls.{list_asks}
-use Rattle.stepping.proofs.Calls.{list_refused, list_short, list_walked}
+use Rattle.stepping.proofs.Calls.{list_refused, list_walked}
 use borrow.Author.Rules.{rules}
 use Rattle.placing.proofs.decide.Goals as goal
 

@@ -1,5 +1,4 @@
 -- `place`: how many starts were skipped says whether one is left, and the flags whether the stack is allowed.
-use Rattle.convention.proofs.Offsets.{modulus_pos}
 use Rattle.placing.proofs.Steps.{found_registers, found_stack, found_nowhere}
 use borrow.Author.Rules.{rules}
 use Rattle.placing.proofs.place.Goals as goal

@@ -1,6 +1,4 @@
-use Prim.Native.Nat.{◌-◌}
-use Rattle.placing.specs.RulesSteps.{Searching}
-use Rattle.placing.proofs.Starts.{start_there, start_within, search_begin, search_hit, search_on, search_end}
+use Rattle.placing.proofs.Starts.{search_begin, search_hit, search_on, search_end}
 use borrow.Author.Rules.{rules}
 use Rattle.placing.proofs.search.Goals as goal
 

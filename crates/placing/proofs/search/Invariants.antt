@@ -1,8 +1,6 @@
 -- `search`: before each start, what is skipped is counted as in the whole, and the runs of those that were tried before it were passed; the first run that is free ends it.
 use Prim.Native.Nat.{◌-◌}
 use Rattle.placing.specs.RulesSteps.{Searching}
-use Rattle.placing.proofs.Starts.{start_there, start_within, search_begin, search_hit, search_on, search_end}
-use borrow.Author.Rules.{rules}
 use Rattle.placing.proofs.search.Given as goal
 
 abbrev pub invariant-loop-i : goal.invariant-loop-i

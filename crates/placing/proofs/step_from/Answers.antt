@@ -1,5 +1,5 @@
 -- `step_from`: the search, the place and the state after it, in turn.
-use Rattle.placing.proofs.Steps.{search_asks, place_asks, after_asks, step_is}
+use Rattle.placing.proofs.Steps.{after_asks, step_is}
 use borrow.Author.Rules.{rules}
 use Rattle.placing.proofs.step_from.Goals as goal
 

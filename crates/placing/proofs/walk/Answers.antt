@@ -1,9 +1,5 @@
-use Rattle.placing.proofs.Lists.{making_begin, kind_there, next_asks, next_room, making_hit, making_on, making_end}
-use Rattle.placing.specs.RulesSteps.{as_rules, RulesMaking}
-use lib.ListN.{length}
-use Prim.Native.Nat.{◌-◌}
-use lib.Dec.{lit<}
-use borrow.Author.Rules.{rules, Fits-under, scaled_Fits}
+use Rattle.placing.proofs.Lists.{kind_there, next_asks, making_hit, making_on, making_end}
+use borrow.Author.Rules.{rules}
 use Rattle.placing.proofs.walk.Goals as goal
 
 pub bounds-sheet-k : goal.bounds-sheet-k

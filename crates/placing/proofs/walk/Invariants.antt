@@ -1,10 +1,7 @@
 -- `walk`: at each argument, what is left of the list gives the rest, p leaves room for one more step, and each kind's search may begin where its cursor says.
-use Rattle.placing.proofs.Lists.{making_begin, kind_there, next_asks, next_room, making_hit, making_on, making_end}
 use Rattle.placing.specs.RulesSteps.{as_rules, RulesMaking}
 use lib.ListN.{length}
 use Prim.Native.Nat.{◌-◌}
-use lib.Dec.{lit<}
-use borrow.Author.Rules.{rules, Fits-under, scaled_Fits}
 use Rattle.placing.proofs.walk.Given as goal
 
 abbrev pub invariant-loop-i : goal.invariant-loop-i

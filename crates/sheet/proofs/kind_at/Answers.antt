@@ -1,7 +1,4 @@
-use Rattle.sheet.proofs.Turns.{kind_begins, at_within, at_turn, at_end}
-use Rattle.convention.specs.Sheets.{sheet_kind_at}
-use mathlib.Core.Path.{◌≡◌}
-use Prim.Native.Nat.{◌≤◌, ◌-◌}
+use Rattle.sheet.proofs.Turns.{kind_begins, at_within, at_turn}
 use native.Mathlib.Omega.{arith}
 use borrow.Author.Rules.{rules}
 use Rattle.sheet.proofs.kind_at.Goals as goal

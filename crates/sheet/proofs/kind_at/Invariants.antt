@@ -1,10 +1,7 @@
 -- `kind_at`: once so many kinds are passed, the place is that of the next one, which stands within the sheet.
-use Rattle.sheet.proofs.Turns.{kind_begins, at_within, at_turn, at_end}
 use Rattle.convention.specs.Sheets.{sheet_kind_at}
 use mathlib.Core.Path.{◌≡◌}
 use Prim.Native.Nat.{◌≤◌, ◌-◌}
-use native.Mathlib.Omega.{arith}
-use borrow.Author.Rules.{rules}
 use Rattle.sheet.proofs.kind_at.Given as goal
 
 abbrev pub invariant-loop-passed : goal.invariant-loop-passed

@@ -1,6 +1,5 @@
 -- `kind_no`: its fields are those of `sheet_kind_no` in turn, by what each call answers.
 use Rattle.convention.specs.Sheets.{sheet_kind_no}
-use borrow.Author.Rules.{rules}
 use Rattle.sheet.proofs.kind_no.Goals as goal
 
 pub returns : goal.returns

@@ -1,6 +1,5 @@
 -- `kind_of`: its fields are what each call answers.
 use Rattle.convention.specs.Sheets.{sheet_kind_of}
-use borrow.Author.Rules.{rules}
 use Rattle.sheet.proofs.kind_of.Goals as goal
 
 pub returns : goal.returns

@@ -1,6 +1,4 @@
 use Rattle.sheet.proofs.Turns.{kinds_turn, kinds_hit, kinds_end}
-use Rattle.sheet.specs.Kinds.{KindsRest}
-use mathlib.Core.Path.{refl}
 use borrow.Author.Rules.{rules}
 use Rattle.sheet.proofs.kinds_no.Goals as goal
 

@@ -1,8 +1,5 @@
 -- `kinds_no`: the kinds that are left give the number and the end of all, at each turn; a kind that is right ends within the sheet.
-use Rattle.sheet.proofs.Turns.{kinds_turn, kinds_hit, kinds_end}
 use Rattle.sheet.specs.Kinds.{KindsRest}
-use mathlib.Core.Path.{refl}
-use borrow.Author.Rules.{rules}
 use Rattle.sheet.proofs.kinds_no.Given as goal
 
 abbrev pub invariant-loop-left : goal.invariant-loop-left

@@ -1,6 +1,4 @@
-use Rattle.sheet.proofs.Turns.{next_whole, kind_stored, kinds_begin, kinds_done}
-use Rattle.sheet.specs.Kinds.{KindsStored}
-use Prim.Native.Nat.{◌-◌}
+use Rattle.sheet.proofs.Turns.{next_whole, kind_stored, kinds_done}
 use borrow.Author.Rules.{rules}
 use Rattle.sheet.proofs.kinds_of.Goals as goal
 

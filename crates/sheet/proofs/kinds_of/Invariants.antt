@@ -1,8 +1,6 @@
 -- `kinds_of`: after i turns the first i kinds stand in their places; each was found right before, so it ends within the sheet.
-use Rattle.sheet.proofs.Turns.{next_whole, kind_stored, kinds_begin, kinds_done}
 use Rattle.sheet.specs.Kinds.{KindsStored}
 use Prim.Native.Nat.{◌-◌}
-use borrow.Author.Rules.{rules}
 use Rattle.sheet.proofs.kinds_of.Given as goal
 
 abbrev pub invariant-loop-i : goal.invariant-loop-i

@@ -2,7 +2,6 @@
 use Rattle.sheet.proofs.Whole.{answer_refused}
 use Rattle.convention.specs.Sheets.{sheet_no, read_sheet}
 use mathlib.Core.Path.{◌≡◌, sym, ◌∙◌}
-use borrow.Author.Rules.{rules}
 use Rattle.sheet.proofs.read_sheet.Goals as goal
 
 pub returns-then-number-eq0 : goal.returns-then-number-eq0

@@ -1,9 +1,6 @@
 use Rattle.sheet.proofs.Turns.{starts_end}
 use Rattle.sheet.proofs.Turns.{starts_more, starts_hit}
-use Rattle.convention.specs.Sheets.{starts_no}
 use native.Mathlib.Omega.{arith}
-use mathlib.Core.Path.{◌≡◌, refl}
-use Prim.Native.Nat.{◌+◌, ◌≤◌}
 use borrow.Author.Rules.{rules}
 use Rattle.sheet.proofs.starts_no.Goals as goal
 

@@ -1,11 +1,8 @@
 -- `starts_of`: after i turns the first i starts stand in their places, and zeros after them.
-use Rattle.sheet.proofs.Turns.{start_stored}
-use Rattle.convention.proofs.Filled.{filled, fill_done}
+use Rattle.convention.proofs.Filled.{filled}
 use lib.ListN.{drop}
-use native.Mathlib.Omega.{arith}
-use mathlib.Core.Path.{◌≡◌, refl}
+use mathlib.Core.Path.{◌≡◌}
 use Prim.Native.Nat.{◌≤◌, ◌-◌}
-use borrow.Author.Rules.{rules}
 use Rattle.sheet.proofs.starts_of.Given as goal
 
 abbrev pub invariant-loop-i : goal.invariant-loop-i

@@ -1,5 +1,4 @@
 -- `stepping::free_run` meets its contract: a run is free where the set shares no bit with it.
-use borrow.Author.Rules.{rules}
 use Rattle.stepping.proofs.Sets.{free_set}
 use Rattle.stepping.proofs.free_run.Goals as goal
 

@@ -1,6 +1,5 @@
 -- `stepping::mark_run` meets its contract: marking a run adds its bits.
 use mathlib.Core.Path.{sym}
-use borrow.Author.Rules.{rules}
 use Rattle.stepping.proofs.Sets.{mark_set}
 use Rattle.stepping.proofs.mark_run.Goals as goal
 

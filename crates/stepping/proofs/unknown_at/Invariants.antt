@@ -2,9 +2,7 @@
 use Prim.Native.Nat.{◌+◌, ◌-◌, ◌≤◌}
 use mathlib.Core.Path.{◌≡◌}
 use lib.ListN.{length, drop}
-use borrow.Author.Rules.{rules}
 use Rattle.convention.specs.Lists.{unknown_at}
-use Rattle.stepping.proofs.Lists.{look_end, look_hit, look_on}
 use Rattle.stepping.proofs.unknown_at.Given as goal
 
 abbrev pub invariant-loop-at : goal.invariant-loop-at

@@ -1,6 +1,4 @@
 -- `stepping::write_record` meets its contract: six stores one after the other are the six bytes of what the placement is made of.
-use native.Mathlib.Omega.{arith}
-use lib.ListN.{length-set}
 use Rattle.stepping.proofs.Records.{record_stored}
 use borrow.Author.Rules.{rules}
 use Rattle.stepping.proofs.write_record.Goals as goal

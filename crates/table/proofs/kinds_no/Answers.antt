@@ -1,8 +1,4 @@
-use Rattle.table.proofs.Runs.{RunRest, kinds_run, kinds_run_lem, run_turn, run_hit, run_done}
-use Rattle.convention.specs.Tables.{table_kinds_no}
-use Rattle.convention.specs.Layout.{kinds_at}
-use lib.ListN.{drop}
-use mathlib.Core.Path.{refl}
+use Rattle.table.proofs.Runs.{kinds_run_lem, run_turn, run_hit, run_done}
 use borrow.Author.Rules.{rules}
 use Rattle.table.proofs.kinds_no.Goals as goal
 

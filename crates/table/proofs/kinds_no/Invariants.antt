@@ -1,10 +1,8 @@
 -- `kinds_no`: the kinds that are left give the number of all, at each turn.
-use Rattle.table.proofs.Runs.{RunRest, kinds_run, kinds_run_lem, run_turn, run_hit, run_done}
+use Rattle.table.proofs.Runs.{RunRest, kinds_run}
 use Rattle.convention.specs.Tables.{table_kinds_no}
 use Rattle.convention.specs.Layout.{kinds_at}
 use lib.ListN.{drop}
-use mathlib.Core.Path.{refl}
-use borrow.Author.Rules.{rules}
 use Rattle.table.proofs.kinds_no.Given as goal
 
 abbrev pub invariant-loop-left : goal.invariant-loop-left

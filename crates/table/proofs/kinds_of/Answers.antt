@@ -1,11 +1,4 @@
-use Rattle.table.proofs.Stored.{kind_stored, kinds_done, kind_within}
-use Rattle.convention.proofs.Filled.{filled}
-use Rattle.convention.specs.Tables.{table_kinds_of}
-use Rattle.convention.specs.Sheets.{blank_shape}
-use Rattle.convention.specs.Layout.{kinds_at}
-use lib.ListN.{drop}
-use mathlib.Core.Path.{◌≡◌}
-use Prim.Native.Nat.{◌≤◌, ◌-◌}
+use Rattle.table.proofs.Stored.{kind_stored, kinds_done}
 use borrow.Author.Rules.{rules}
 use Rattle.table.proofs.kinds_of.Goals as goal
 

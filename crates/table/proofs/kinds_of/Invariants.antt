@@ -1,5 +1,4 @@
 -- `kinds_of`: after i turns the first i kinds stand in their places, and blank ones after them.
-use Rattle.table.proofs.Stored.{kind_stored, kinds_done, kind_within}
 use Rattle.convention.proofs.Filled.{filled}
 use Rattle.convention.specs.Tables.{table_kinds_of}
 use Rattle.convention.specs.Sheets.{blank_shape}
@@ -7,7 +6,6 @@ use Rattle.convention.specs.Layout.{kinds_at}
 use lib.ListN.{drop}
 use mathlib.Core.Path.{◌≡◌}
 use Prim.Native.Nat.{◌≤◌, ◌-◌}
-use borrow.Author.Rules.{rules}
 use Rattle.table.proofs.kinds_of.Given as goal
 
 abbrev pub invariant-loop-i : goal.invariant-loop-i

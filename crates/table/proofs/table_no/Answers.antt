@@ -1,5 +1,5 @@
 -- `table_no`: each part in its turn, as long as nothing before it is wrong.
-use Rattle.table.proofs.Whole.{number_opening, opened, number_kinds, number_states, number_rows, rows_there}
+use Rattle.table.proofs.Whole.{number_opening, opened, number_kinds, number_states, number_rows}
 use borrow.Author.Rules.{rules}
 use Rattle.table.proofs.table_no.Goals as goal
 

@@ -1,11 +1,5 @@
-use Rattle.table.proofs.Runs.{RunRest, transitions_run, transitions_run_lem, run_turn, run_hit, run_done}
-use Rattle.table.proofs.There.{next_there, rest_there}
-use Rattle.convention.specs.Layout.{transition_length}
-use Rattle.convention.specs.Tables.{transitions_no}
-use Prim.Native.Nat.{◌+◌, ◌*◌, ◌≤◌}
-use lib.ListN.{length}
-use native.Mathlib.Omega.{arith}
-use mathlib.Core.Path.{refl}
+use Rattle.table.proofs.Runs.{transitions_run_lem, run_turn, run_hit, run_done}
+use Rattle.table.proofs.There.{rest_there}
 use borrow.Author.Rules.{rules}
 use Rattle.table.proofs.there_no.Goals as goal
 

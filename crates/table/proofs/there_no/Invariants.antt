@@ -1,13 +1,9 @@
 -- `there_no`: the transitions that are left are there, and give the number of all, at each turn.
-use Rattle.table.proofs.Runs.{RunRest, transitions_run, transitions_run_lem, run_turn, run_hit, run_done}
-use Rattle.table.proofs.There.{next_there, rest_there}
+use Rattle.table.proofs.Runs.{RunRest, transitions_run}
 use Rattle.convention.specs.Layout.{transition_length}
 use Rattle.convention.specs.Tables.{transitions_no}
 use Prim.Native.Nat.{◌+◌, ◌*◌, ◌≤◌}
 use lib.ListN.{length}
-use native.Mathlib.Omega.{arith}
-use mathlib.Core.Path.{refl}
-use borrow.Author.Rules.{rules}
 use Rattle.table.proofs.there_no.Given as goal
 
 abbrev pub invariant-loop-left : goal.invariant-loop-left

@@ -1,6 +1,5 @@
 -- `teaselram_build`: the call's answer, field by field, and its memory.
 use Rattle.teaselram.proofs.Says.{length_fits}
-use borrow.Author.Rules.{rules}
 use Rattle.teaselram.proofs.teaselram_build.Goals as goal
 
 pub building_says-requires : goal.building_says-requires

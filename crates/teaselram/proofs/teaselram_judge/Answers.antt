@@ -1,6 +1,5 @@
 -- `teaselram_judge`: the verdict, field by field, and its memory.
 use Rattle.teaselram.proofs.Says.{verdict_fits}
-use borrow.Author.Rules.{rules}
 use Rattle.teaselram.proofs.teaselram_judge.Goals as goal
 
 pub judging_says-requires : goal.judging_says-requires

@@ -1,6 +1,5 @@
 -- `teaselram_place_by_rules`: the call's answer, field by field, and its memory.
 use Rattle.teaselram.proofs.Says.{rules_count}
-use borrow.Author.Rules.{rules}
 use Rattle.teaselram.proofs.teaselram_place_by_rules.Goals as goal
 
 pub placing_says-requires : goal.placing_says-requires

@@ -1,6 +1,5 @@
 -- `teaselram_table_kind`: the number decides; a kind that is there is one of eight.
 use Rattle.teaselram.proofs.Says.{table_kind_refused, table_kind_below, table_kind_given}
-use Prim.Native.Nat.{◌<◌}
 use native.Mathlib.Omega.{arith}
 use borrow.Author.Rules.{rules}
 use Rattle.teaselram.proofs.teaselram_table_kind.Goals as goal

@@ -1,7 +1,7 @@
 -- `argument`: the fault of the transition's step, its record and the state after it, by what each call answers.
 use Prim.Native.Nat.{◌≤◌}
 use native.Mathlib.Omega.{arith}
-use Rattle.walking.proofs.Steps.{run_ends, stack_ends, argument_hit, argument_on}
+use Rattle.walking.proofs.Steps.{stack_ends, argument_on}
 use borrow.Author.Rules.{rules}
 use Rattle.walking.proofs.argument.Goals as goal
 

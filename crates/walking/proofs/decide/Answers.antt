@@ -1,6 +1,5 @@
 -- `decide`: a failed test, or what the walk decides.
-use Rattle.stepping.proofs.Calls.{list_refused, list_short, list_walked}
-use Rattle.walking.proofs.Calls.{walk_asks}
+use Rattle.stepping.proofs.Calls.{list_refused, list_walked}
 use borrow.Author.Rules.{rules}
 use Rattle.walking.proofs.decide.Goals as goal
 

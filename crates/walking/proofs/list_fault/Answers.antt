@@ -1,11 +1,6 @@
 use Rattle.walking.proofs.Faulting.{faulting_begin, faulting_inside, faulting_kind, faulting_asks, faulting_gives, faulting_on, faulting_hit, faulting_end}
 use Rattle.table.proofs.Rows.{transition_there}
-use Rattle.walking.specs.TableSteps.{Faulting}
-use lib.ListN.{length}
-use Rattle.stepping.specs.Sets.{set_of}
-use Prim.Native.Nat.{◌-◌}
-use lib.Dec.{lit<}
-use borrow.Author.Rules.{rules, Fits-under, scaled_Fits}
+use borrow.Author.Rules.{rules}
 use Rattle.walking.proofs.list_fault.Goals as goal
 
 pub loop-i-init : goal.loop-i-init

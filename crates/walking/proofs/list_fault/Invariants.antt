@@ -1,12 +1,8 @@
 -- `list_fault`: what is left of the list has the fault of the whole, from the state and the given registers alone.
-use Rattle.walking.proofs.Faulting.{faulting_begin, faulting_inside, faulting_kind, faulting_asks, faulting_gives, faulting_on, faulting_hit, faulting_end}
-use Rattle.table.proofs.Rows.{transition_there}
 use Rattle.walking.specs.TableSteps.{Faulting}
 use lib.ListN.{length}
 use Rattle.stepping.specs.Sets.{set_of}
 use Prim.Native.Nat.{◌-◌}
-use lib.Dec.{lit<}
-use borrow.Author.Rules.{rules, Fits-under, scaled_Fits}
 use Rattle.walking.proofs.list_fault.Given as goal
 
 abbrev pub invariant-loop-i : goal.invariant-loop-i

@@ -1,7 +1,6 @@
 -- `step_fault`: the form says which faults can apply.
 use borrow.Author.Tests.{eq-eqb, ne_eqb}
 use Rattle.convention.specs.Walked.{table_fault}
-use borrow.Author.Rules.{rules}
 use Rattle.walking.proofs.step_fault.Goals as goal
 
 pub returns-then-x-eq1 : goal.returns-then-x-eq1

@@ -1,11 +1,6 @@
-use Prim.Native.Nat.{◌-◌}
-use native.Mathlib.Omega.{arith}
-use lib.Dec.{lit<}
-use lib.ListN.{length}
 use Rattle.table.proofs.Rows.{transition_there}
-use Rattle.walking.specs.TableSteps.{as_table, TableStanding}
-use Rattle.walking.proofs.Lists.{standing_begin, next_inside, kind_there, next_asks, standing_on, standing_hit, standing_end}
-use borrow.Author.Rules.{rules, Fits-under, scaled_Fits}
+use Rattle.walking.proofs.Lists.{next_inside, kind_there, next_asks, standing_on, standing_hit, standing_end}
+use borrow.Author.Rules.{rules}
 use Rattle.walking.proofs.walk.Goals as goal
 
 pub transition_of-x-requires : goal.transition_of-x-requires

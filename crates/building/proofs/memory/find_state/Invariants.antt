@@ -1,7 +1,5 @@
 -- `find_state`: at each turn no state from number `at` on has the key, and the state before it, if any, has the key's slot.
 use Rattle.building.specs.Links.{Seeking}
-use Rattle.building.proofs.Linking.{seek_begin, seek_here, seek_on, seek_less, seek_end}
-use borrow.Author.Rules.{rules}
 use Rattle.building.proofs.memory.find_state.Given as goal
 
 abbrev pub invariant-loop-at : goal.invariant-loop-at

@@ -1,5 +1,5 @@
 -- `meet_state`: where the key is found is the state's number, so it is kept already, has no room, or is kept after the others, as the definition appends it.
-use Rattle.building.proofs.Keeping.{meets_known, meets_over, keep_asks, meets_new}
+use Rattle.building.proofs.Keeping.{meets_known, meets_over, meets_new}
 use borrow.Author.Rules.{rules}
 use Rattle.building.proofs.memory.meet_state.Goals as goal
 

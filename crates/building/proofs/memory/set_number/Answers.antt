@@ -1,5 +1,4 @@
-use Rattle.building.specs.Keys.{NumberFrom}
-use Rattle.building.proofs.Keyed.{number_begin, number_fits, number_on, number_end}
+use Rattle.building.proofs.Keyed.{number_begin, number_on}
 use borrow.Author.Rules.{rules}
 use Rattle.building.proofs.memory.set_number.Goals as goal
 

@@ -1,7 +1,5 @@
 -- `set_number`: at each turn the number is that of the registers from i on.
 use Rattle.building.specs.Keys.{NumberFrom}
-use Rattle.building.proofs.Keyed.{number_begin, number_fits, number_on, number_end}
-use borrow.Author.Rules.{rules}
 use Rattle.building.proofs.memory.set_number.Given as goal
 
 abbrev pub invariant-loop-i : goal.invariant-loop-i

@@ -1,6 +1,4 @@
-use Prim.Native.Nat.{◌-◌}
-use Rattle.building.specs.Keys.{SetUpTo}
-use Rattle.building.proofs.Keyed.{set_begin, set_on, set_end}
+use Rattle.building.proofs.Keyed.{set_on, set_end}
 use borrow.Author.Rules.{rules}
 use Rattle.building.proofs.memory.set_of.Goals as goal
 

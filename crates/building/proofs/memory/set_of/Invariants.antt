@@ -1,8 +1,6 @@
 -- `set_of`: at each turn the flags before register i are told, and the rest of the number stands for the others.
 use Prim.Native.Nat.{◌-◌}
 use Rattle.building.specs.Keys.{SetUpTo}
-use Rattle.building.proofs.Keyed.{set_begin, set_on, set_end}
-use borrow.Author.Rules.{rules}
 use Rattle.building.proofs.memory.set_of.Given as goal
 
 abbrev pub invariant-loop-i : goal.invariant-loop-i

@@ -1,7 +1,6 @@
 -- `write_front`: the opening, the kinds and N, one after the other.
 use mathlib.Core.Path.{refl}
-use Rattle.building.proofs.Writing.{states_room, front_written}
-use borrow.Author.Rules.{rules}
+use Rattle.building.proofs.Writing.{front_written}
 use Rattle.building.proofs.writer.write_front.Goals as goal
 
 pub returns : goal.returns

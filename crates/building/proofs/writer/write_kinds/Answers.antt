@@ -1,8 +1,4 @@
-use Prim.Native.Nat.{◌-◌}
-use Rattle.convention.specs.Layout.{kinds_at}
-use Rattle.convention.specs.Built.{built_kind}
-use Rattle.building.specs.Writing.{BlocksSoFar}
-use Rattle.building.proofs.Writing.{blocks_begin, kind_room, kind_on, blocks_end}
+use Rattle.building.proofs.Writing.{blocks_begin, kind_on}
 use borrow.Author.Rules.{rules}
 use Rattle.building.proofs.writer.write_kinds.Goals as goal
 

@@ -2,8 +2,6 @@
 use mathlib.Core.Path.{◌≡◌}
 use lib.ListN.{length}
 use Rattle.certifying.specs.Filled.{FillAsks}
-use Rattle.certifying.proofs.Growing.{fill_on}
-use borrow.Author.Rules.{rules}
 use Rattle.certifying.proofs.filling.fill.Given as goal
 
 abbrev pub invariant-loop-left : goal.invariant-loop-left

@@ -1,6 +1,3 @@
-use Prim.Native.Nat.{◌-◌}
-use mathlib.Core.Path.{◌≡◌}
-use lib.ListN.{length}
 use Rattle.table.proofs.Rows.{transition_there}
 use Rattle.certifying.proofs.Checking.{row_inside}
 use Rattle.certifying.proofs.Growing.{fill_grows}

@@ -2,10 +2,6 @@
 use Prim.Native.Nat.{◌-◌}
 use mathlib.Core.Path.{◌≡◌}
 use lib.ListN.{length}
-use Rattle.table.proofs.Rows.{transition_there}
-use Rattle.certifying.proofs.Checking.{row_inside}
-use Rattle.certifying.proofs.Growing.{fill_grows}
-use borrow.Author.Rules.{rules}
 use Rattle.certifying.proofs.filling.fill_row.Given as goal
 
 abbrev pub invariant-loop-k : goal.invariant-loop-k

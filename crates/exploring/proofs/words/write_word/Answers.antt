@@ -1,7 +1,6 @@
 -- `write_word`: its two stores.
 use Rattle.exploring.specs.Memory.{put_word}
 use mathlib.Core.Path.{refl}
-use borrow.Author.Rules.{rules}
 use Rattle.exploring.proofs.words.write_word.Goals as goal
 
 pub returns : goal.returns

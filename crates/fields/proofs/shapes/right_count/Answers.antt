@@ -1,6 +1,5 @@
 -- `right_count`: the count is the number needed, or it is not.
 use Rattle.convention.specs.Shapes.{right_count}
-use borrow.Author.Rules.{rules}
 use Rattle.fields.proofs.shapes.right_count.Goals as goal
 
 pub returns : goal.returns

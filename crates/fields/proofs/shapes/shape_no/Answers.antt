@@ -1,6 +1,5 @@
 -- `shape_no`: its two fields are those of `shape_no`, by what each call answers.
 use Rattle.convention.specs.Fields.{shape_no}
-use borrow.Author.Rules.{rules}
 use Rattle.fields.proofs.shapes.shape_no.Goals as goal
 
 pub returns : goal.returns

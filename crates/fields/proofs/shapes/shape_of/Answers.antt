@@ -1,6 +1,5 @@
 -- `shape_of`: two bytes, each by what `byte_at` answers.
 use Rattle.convention.specs.Fields.{shape_of}
-use borrow.Author.Rules.{rules}
 use Rattle.fields.proofs.shapes.shape_of.Goals as goal
 
 pub returns : goal.returns

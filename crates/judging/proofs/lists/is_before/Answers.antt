@@ -1,6 +1,4 @@
-use Prim.Native.Nat.{◌-◌}
-use Rattle.judging.proofs.Listing.{compare_long, compare_begin, compare_hit, compare_turn, compare_end}
-use Rattle.judging.specs.Listed.{Comparing}
+use Rattle.judging.proofs.Listing.{compare_long, compare_begin, compare_hit, compare_turn}
 use borrow.Author.Rules.{rules}
 use Rattle.judging.proofs.lists.is_before.Goals as goal
 

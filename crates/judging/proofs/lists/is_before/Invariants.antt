@@ -1,8 +1,6 @@
 -- `is_before`: the lengths decide, or else the first kinds that differ; before byte `at` there are none.
 use Prim.Native.Nat.{◌-◌}
-use Rattle.judging.proofs.Listing.{compare_long, compare_begin, compare_hit, compare_turn, compare_end}
 use Rattle.judging.specs.Listed.{Comparing}
-use borrow.Author.Rules.{rules}
 use Rattle.judging.proofs.lists.is_before.Given as goal
 
 abbrev pub invariant-loop-at : goal.invariant-loop-at

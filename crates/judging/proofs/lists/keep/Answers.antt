@@ -1,9 +1,4 @@
-use Rattle.judging.proofs.Listing.{keep_read, keep_write}
-use Prim.Native.Nat.{◌-◌, ◌≤◌}
-use mathlib.Core.Path.{◌≡◌}
-use lib.Seq.{paste}
-use Rattle.judging.proofs.Listing.{keep_begin, keep_long, keep_turn, keep_end}
-use Rattle.judging.specs.Memory.{found_end, list_at}
+use Rattle.judging.proofs.Listing.{keep_turn}
 use borrow.Author.Rules.{rules}
 use Rattle.judging.proofs.lists.keep.Goals as goal
 

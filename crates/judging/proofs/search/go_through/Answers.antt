@@ -1,10 +1,7 @@
-use Prim.Native.Nat.{◌-◌}
 use mathlib.Core.Path.{refl}
-use lib.Dec.{lit<}
 use Rattle.table.proofs.Rows.{transition_there}
-use Rattle.judging.proofs.Searching.{through_begin, through_state, through_in, through_kind, through_asks, through_hit, through_meets, through_turn, through_end}
-use Rattle.judging.specs.Searched.{GoingThrough}
-use borrow.Author.Rules.{rules, Fits-under, scaled_Fits}
+use Rattle.judging.proofs.Searching.{through_begin, through_in, through_hit, through_meets, through_turn}
+use borrow.Author.Rules.{rules}
 use Rattle.judging.proofs.search.go_through.Goals as goal
 
 pub loop-k-init : goal.loop-k-init

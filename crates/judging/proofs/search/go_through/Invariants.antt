@@ -1,11 +1,6 @@
 -- `go_through`: before kind k the kinds below it were gone through, and none is faulty.
 use Prim.Native.Nat.{◌-◌}
-use mathlib.Core.Path.{refl}
-use lib.Dec.{lit<}
-use Rattle.table.proofs.Rows.{transition_there}
-use Rattle.judging.proofs.Searching.{through_begin, through_state, through_in, through_kind, through_asks, through_hit, through_meets, through_turn, through_end}
 use Rattle.judging.specs.Searched.{GoingThrough}
-use borrow.Author.Rules.{rules, Fits-under, scaled_Fits}
 use Rattle.judging.proofs.search.go_through.Given as goal
 
 abbrev pub invariant-loop-k : goal.invariant-loop-k

@@ -1,6 +1,4 @@
-use Prim.Native.Nat.{◌-◌}
-use Rattle.judging.proofs.Searching.{search_begin, search_reads, search_through, search_hit, search_turn, search_end}
-use Rattle.judging.specs.Searched.{Searching}
+use Rattle.judging.proofs.Searching.{search_through, search_hit, search_turn, search_end}
 use borrow.Author.Rules.{rules}
 use Rattle.judging.proofs.search.search.Goals as goal
 

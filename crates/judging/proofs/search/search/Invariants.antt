@@ -1,8 +1,6 @@
 -- `search`: before entry i the entries below it were gone through, and none hits.
 use Prim.Native.Nat.{◌-◌}
-use Rattle.judging.proofs.Searching.{search_begin, search_reads, search_through, search_hit, search_turn, search_end}
 use Rattle.judging.specs.Searched.{Searching}
-use borrow.Author.Rules.{rules}
 use Rattle.judging.proofs.search.search.Given as goal
 
 abbrev pub invariant-loop-i : goal.invariant-loop-i
