@@ -74,6 +74,11 @@ before_trans a b c (inl h) (inr f) = inl (omega arith)
 before_trans a b c (inr e) (inl g) = inl (omega arith)
 before_trans a b c (inr e) (inr f) = inr (omega arith, earlier_trans a b c e.1 f.1)
 
+-- The empty list is before every other.
+pub nil_before : (a : List ℕ) (k : ℕ) → Before [] (a ++ k ∷ [])
+unfolding Before
+nil_before a k = inl (simp length-append (omega arith))
+
 -- Of two lists that differ, one is before the other.
 pub before_total : (a b : List ℕ) → Before a b ⊎ ((a ≡ b) ⊎ Before b a)
 unfolding Before
@@ -97,11 +102,6 @@ before_snoc a b k j h = before_append a b (k ∷ []) (j ∷ []) refl h
 pub snoc_earlier : (a : List ℕ) (k j : ℕ) → k < j → Before (a ++ k ∷ []) (a ++ j ∷ [])
 unfolding Before
 snoc_earlier a k j h = inr (simp length-append, earlier_last a k j h)
-
--- The empty list is before every other.
-pub nil_before : (a : List ℕ) (k : ℕ) → Before [] (a ++ k ∷ [])
-unfolding Before
-nil_before a k = inl (simp length-append (omega arith))
 
 -- Not after what is before is before.
 pub not_after_before : (a b c : List ℕ) → NotAfter a b → Before b c → Before a c

@@ -78,6 +78,7 @@ fn least_list(table: Table, t: &[u8], twice: u32, work: &mut [u8]) -> usize
 
 // The verdict on a table that was read from t, with room for its list, by searching it in lent working memory: the list is
 // written only where it is faulty.
+#[tactic(auto, using(crate::proofs::Answers::judge_clean))]
 fn judge_in(table: Table, t: &[u8], twice: u32, work: &mut [u8], out: &mut [u8]) -> JudgingAnswer
     requires judge_in_asks { JudgeInAsks table t.now work.old out.old }
     requires once_but { OnceBut table t.now twice }
@@ -107,6 +108,7 @@ fn judge_by_search(table: Table, t: &[u8], twice: u32, out: &mut [u8]) -> Judgin
 
 // The verdict on a table that was read from t, with room for its list: one that is certified is clean, and only another is
 // searched.
+#[tactic(auto, using(crate::proofs::Answers::judge_certified))]
 fn judge_read(table: Table, t: &[u8], out: &mut [u8]) -> JudgingAnswer
     requires { JudgeAsks table t.now out.old }
     ensures { Judges state_limit t.now out.old result out.new }

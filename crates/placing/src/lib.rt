@@ -76,6 +76,7 @@ fn place(
 }
 
 // What the place takes, and rule 4, with the registers that the search passed: how far placing has come after the argument.
+#[tactic(auto, using(crate::proofs::Steps::after_open, crate::proofs::Steps::after_closed))]
 fn after(flags: u8, passed: u32, place: Placement, s: RulesAt) -> RulesAt
     requires { AfterAsks place }
     ensures { AfterIs flags passed place (as_rules s) (as_rules result) }

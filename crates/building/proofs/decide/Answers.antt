@@ -1,4 +1,4 @@
--- `decide`: what the exploration answers, from no state met.
+-- `decide`: fresh memory holds no state, and from there the exploration begins.
 use Rattle.building.proofs.Linking.{nothing_linked}
 use borrow.Author.Rules.{rules}
 use Rattle.building.proofs.decide.Goals as goal

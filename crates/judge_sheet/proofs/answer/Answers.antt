@@ -1,5 +1,7 @@
 -- `answer`: no table needs more room than there is, one that was built can be judged, and each answer is the text that the program prints.
 use Rattle.convention.specs.Layout.{shape_length, state_length}
+use Rattle.std.proofs.Common.{◌≤◌, length, arith}
+use Rattle.convention.specs.Program.{input_limit}
 use borrow.Author.Rules.{rules}
 use Rattle.judge_sheet.proofs.Builds.{table_within, table_long, table_line_asks}
 use Rattle.judge_sheet.proofs.Answers.{refusal_room, prints_long, prints_refused, prints_built}
@@ -25,8 +27,12 @@ write_refused-requires-in-Refused c = search (refusal_room, rules)
 
 pub returns-in-Built : goal.returns-in-Built
 unfolding shape_length state_length
-returns-in-Built c = search (prints_built, rules)
+returns-in-Built c =
+    let few : length c.args.input.now ≤ input_limit = omega arith in
+    search (prints_built, rules)
 
 pub returns-in-Refused : goal.returns-in-Refused
 unfolding shape_length state_length
-returns-in-Refused c = search (prints_refused, rules)
+returns-in-Refused c =
+    let few : length c.args.input.now ≤ input_limit = omega arith in
+    search (prints_refused, rules)

@@ -1,4 +1,4 @@
--- `teaselram_build`: the call's answer, field by field, and its memory.
+-- `teaselram_build`: the table's length fits its field.
 use Rattle.teaselram.proofs.Says.{length_fits}
 use Rattle.teaselram.proofs.teaselram_build.Goals as goal
 

@@ -1,4 +1,4 @@
--- `teaselram_judge`: the verdict, field by field, and its memory.
+-- `teaselram_judge`: the list's length fits its field.
 use Rattle.teaselram.proofs.Says.{verdict_fits}
 use Rattle.teaselram.proofs.teaselram_judge.Goals as goal
 

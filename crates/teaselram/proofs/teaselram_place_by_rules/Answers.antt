@@ -1,4 +1,4 @@
--- `teaselram_place_by_rules`: the call's answer, field by field, and its memory.
+-- `teaselram_place_by_rules`: so few arguments are placed that their count fits its field.
 use Rattle.teaselram.proofs.Says.{rules_count}
 use Rattle.teaselram.proofs.teaselram_place_by_rules.Goals as goal
 

@@ -1,4 +1,4 @@
--- `teaselram_place_by_table`: the call's answer, field by field, and its memory.
+-- `teaselram_place_by_table`: so few arguments are placed that their count fits its field.
 use Rattle.teaselram.proofs.Says.{table_count}
 use Rattle.teaselram.proofs.teaselram_place_by_table.Goals as goal
 

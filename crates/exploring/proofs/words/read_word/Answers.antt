@@ -1,4 +1,4 @@
--- `read_word`: its two bytes, and each is below 256.
+-- `read_word`: its two bytes.
 use Rattle.exploring.specs.Memory.{word_at}
 use mathlib.Core.Path.{refl}
 use Rattle.exploring.proofs.words.read_word.Goals as goal
