@@ -1,7 +1,7 @@
-//! Links the static library that `tools/build` writes at the top of the repository. Its code is for x86-64; for any
-//! other processor links the calls that `tests/emulated/build` makes, which hand each to it in a second process. Those are linked
-//! on x86-64 too where TEASELRAM_EMULATED is set. Where TEASELRAM_NATIVE is, links what `bench/native` makes for this machine's
-//! own processor, for timing alone.
+//! Links the static library that `tools/build` writes at the top of the repository. Where TEASELRAM_EMULATED is set, and on any
+//! processor but x86-64, for which its code is, links the calls that `tests/emulated/build` makes, which hand each to it in a
+//! second process. Where TEASELRAM_NATIVE is set, links what `bench/native` makes for this machine's own processor, for timing
+//! alone.
 use std::{env, fs, path::PathBuf};
 
 fn main() {

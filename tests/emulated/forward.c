@@ -1,6 +1,6 @@
 /*
- * The calls of teaselram.h for a processor that cannot run the proved library's code: each sends its request to serve.c,
- * which runs in a second process, and copies back the answer and the whole of `out`. The tests link this in the
+ * The calls of teaselram.h for the tests: each sends its request to serve.c, which runs with the proved library in a second
+ * process, and copies back the answer and the whole of `out`. The tests link this in the
  * library's place, so nothing here looks at what it carries.
  *
  * The program that serves is part of this one, byte for byte as tests/emulated/build linked it, so that no other can be

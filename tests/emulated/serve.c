@@ -1,7 +1,6 @@
 /*
- * The proved library, served to programs for another processor: reads requests from standard input, makes each call and
- * writes its reply to standard output, until the input ends. It is x86-64 code;
- * tests/emulated/build links it with the library and puts it into the archive that sends the requests.
+ * The proved library, served to programs in other processes: reads requests from standard input, makes each call and writes
+ * its reply to standard output, until the input ends. tests/emulated/build links it with the library and puts it into the archive that sends the requests.
  *
  * The tests cannot see this memory, so what they see elsewhere is held here: a call that touches a byte after a slice gets
  * a fault from the system, and one that writes before a slice or into its input is found out after it. Either ends the

@@ -1,6 +1,6 @@
 // What both readers use: a byte or 0, a field and its number, the opening of a file, a kind's shape, the number of a state.
 // Each answers the number of the first thing that is wrong, 0 where nothing is: document 01's 'left to right'.
-// Beside them stands the copy of bytes by which all output is written.
+// Beside them stands a copy of bytes, for what is decided in memory of its own and then written.
 #![tactic(auto)]
 
 pub mod layout;

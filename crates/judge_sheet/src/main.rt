@@ -60,8 +60,7 @@ fn answer(input: &[u8], out: &mut [u8]) -> usize
     }
 }
 
-// Reads until `input` is full, its first bytes then being those that were read, or the reader's end. Answers how many bytes were
-// read.
+// Reads until `input` is full or the reader ends. Answers how many bytes were read, which are the first of `input`.
 fn read_full<R: Read>(reader: &mut R, input: &mut [u8]) -> io::Result<usize>
     ensures { IfOk result (λ n. n ≤ length input.new) }
 {
