@@ -44,15 +44,18 @@ flags_refl (true ∷ xs) = flags_refl xs
 flags_refl (false ∷ xs) = flags_refl xs
 
 -- The test of two allocation states decides their equality.
+pub same_equal : (a b : Allocation) → same_allocation a b ≡ true → a ≡ b
+same_equal a b e =
+    let both = (and-eq-true_iff (eqb a.remainder b.remainder) (same_flags a.unavailable b.unavailable)).0 e in
+    let flags = flags_eq a.unavailable b.unavailable both.1 in
+    let rest = eqb-true a.remainder b.remainder both.0 in
+    λ i. record { unavailable = flags i; remainder = rest i }
+
+pub same_own : (a : Allocation) → same_allocation a a ≡ true
+same_own a = rw (eq-eqb a.remainder a.remainder refl, flags_refl)
+
 pub allocations_decide : (sheet : Sheet) → Decides (allocations sheet)
-allocations_decide sheet = record { same_eq = same; same_refl = λ a. rw (eq-eqb a.remainder a.remainder refl, flags_refl) }
-  where
-    same : (a b : Allocation) → same_allocation a b ≡ true → a ≡ b
-    same a b e =
-        let both = (and-eq-true_iff (eqb a.remainder b.remainder) (same_flags a.unavailable b.unavailable)).0 e in
-        let flags = flags_eq a.unavailable b.unavailable both.1 in
-        let rest = eqb-true a.remainder b.remainder both.0 in
-        λ i. record { unavailable = flags i; remainder = rest i }
+allocations_decide sheet = record { same_eq = same_equal; same_refl = same_own }
 
 -- One step from s and from its allocation state.
 module _ (w A : ℕ) (kind : SheetKind) (s : ByRules) (h : kind.shape.alignment ∣ A) where

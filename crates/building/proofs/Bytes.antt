@@ -7,7 +7,7 @@ use native.Mathlib.Omega.{arith}
 use lib.ListN.{length, take, drop, length-append}
 use lib.Seq.{take_at, drop_at}
 use borrow.Author.Tests.{leb-true}
-use Rattle.convention.specs.declared.BuildingAnswer.TheVariants.{Built}
+use Rattle.convention.specs.Answers.BuildingAnswer.{Built}
 use Rattle.convention.specs.Layout.{LengthSaid}
 use Rattle.convention.specs.Sheets.{sheet_no, sheet_of}
 use Rattle.convention.specs.Tables.{table_no}

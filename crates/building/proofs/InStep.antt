@@ -9,7 +9,7 @@ use native.Mathlib.Omega.{arith}
 use lib.Dec.{ltb, leb}
 use lib.ListN.{length, take}
 use borrow.Author.Tests.{ltb-false}
-use Rattle.convention.specs.declared.PlacingAnswer.{PlacingAnswer}
+use Rattle.convention.specs.Answers.{PlacingAnswer}
 use Rattle.convention.specs.Numbers.{or_else, unless}
 use Rattle.convention.specs.Lists.{Steps, fault_from, stop_from, state_from, places_from, record_length, unknown_at, KindsBelow}
 use Rattle.convention.specs.Lists.{walk_answer, placed_or_refused, placing, placing_memory}

@@ -1,137 +1,110 @@
--- Laws of the memory of the states met, on plain values: the state that is had back, the one that is found and the one that is kept are those of the entries.
-use Prim.Native.Nat.{ℕ, ◌+◌, ◌≤◌, ◌<◌}
+-- Laws of the states met, as a list and as the keys that stand for them: the number that is found is a state's own, and what is kept is appended.
+use Prim.Native.Nat.{ℕ, zero, suc, ◌+◌, ◌≤◌, ◌<◌}
 use mathlib.Core.Path.{◌≡◌, refl, sym, ap, ◌∙◌}
 use mathlib.Core.Logic.{inl, inr}
-use mathlib.Core.Bool.{true, false, true≢false}
 use mathlib.Core.List.{List, [], ◌∷◌, ◌++◌}
-use native.Mathlib.Nat.{eq-or-lt_of_le, le_of_suc-le-suc}
-use native.Mathlib.Numerals.{add-one}
 use native.Mathlib.Omega.{arith}
-use lib.ListN.{length, get_or, length-append, get_or-append}
-use lib.Seq.{get_or-append_seam, get_or-set_same, get_or-set_other}
-use Rattle.convention.specs.declared.Sheet.{Sheet}
+use lib.ListN.{length, get_or, set, take, length-append}
+use borrow.Author.Tests.{lt-ltb, le-ltb}
+use Rattle.std.proofs.Common.{map}
+use Rattle.std.proofs.lemmas.List.{get_or-map, get_or-take, length-map, map-append, take_more_set}
+use lib.Seq.{length-take-le}
 use Rattle.convention.specs.declared.Allocation.{Allocation}
+use Rattle.convention.specs.declared.Refusal.{Refusal}
 use Rattle.convention.specs.Numbers.{state_limit}
-use Rattle.convention.specs.Explored.{Entry, first_entry, entry, number as number_of, meet}
-use Rattle.convention.specs.Built.{same_allocation, allocations}
+use Rattle.convention.specs.Built.{same_allocation, first_allocation}
 use Rattle.convention.proofs.Runs.{either}
-use Rattle.convention.proofs.Numbering.{number_first, number_own, meet_known, meet_new, still_more}
-use Rattle.building.specs.declared.memory.Met.{Met}
-use Rattle.building.specs.Keys.{key_of, state_of, KeyIs}
-use Rattle.building.specs.Links.{Linked, Finds, KeepAsks, Kept}
-use Rattle.building.specs.Holding.{Keeps, MetHolds, StateAt, Meets}
-use Rattle.building.proofs.Allocations.{allocations_decide}
+use Rattle.building.specs.Keys.{state_of, states_of, key_limit}
+use Rattle.building.specs.Links.{Linked}
+use Rattle.building.specs.Holding.{place_of, met_with, Finds, Meets, TooMany}
+use Rattle.building.proofs.Allocations.{same_equal, same_own}
+use Rattle.building.proofs.Keyed.{key_same}
 
-module _ (sheet : Sheet) where
-  -- Two states are the same exactly where their keys are.
-  module _ (x y : ℕ) (a b : Allocation) (ka : KeyIs x a) (kb : KeyIs y b) where
-    same_key : x ≡ y → same_allocation a b ≡ true
-    same_key e =
-        let eq : a ≡ b = sym ka.state ∙ ap state_of e ∙ kb.state in
-        rw eq ((allocations_decide sheet).same_refl b)
+-- The place of the first that is the same is the number.
+place_first : (states : List Allocation) (a : Allocation) (r : ℕ) → r ≤ length states
+    → ((j : ℕ) → j < r → get_or states j first_allocation ≡ a → ⊥) → (r < length states → get_or states r first_allocation ≡ a) → place_of states a ≡ r
+unfolding place_of
+place_first [] a r h others there = omega arith
+place_first (x ∷ states) a zero h others there = rw (there (omega arith), same_own a, place_of)
+place_first (x ∷ states) a (suc r) h others there = elim (either (same_allocation x a)) [
+  | inl t ↦ absurd (others 0 (omega arith) (same_equal x a t))
+  | inr f ↦ rw (f, place_of) (ap suc (place_first states a r (omega arith) (λ j o. others (suc j) (omega arith)) (λ o. there (omega arith))))
+]
 
-    other_key : (x ≡ y → ⊥) → same_allocation a b ≡ false
-    other_key other = elim (either (same_allocation a b)) [
-      | inl t ↦ absurd (other (ka.number ∙ ap key_of ((allocations_decide sheet).same_eq a b t) ∙ sym kb.number))
-      | inr f ↦ f
-    ]
+pub place_within : (states : List Allocation) (a : Allocation) → place_of states a ≤ length states
+unfolding place_of
+place_within [] a = omega arith
+place_within (x ∷ states) a = elim (either (same_allocation x a)) [
+  | inl t ↦ rw (t, place_of) (omega arith)
+  | inr f ↦ rw (f, place_of) (omega (arith, place_within states a))
+]
 
--- Nothing was met yet.
-pub nothing_kept : (sheet : Sheet) (states links : List ℕ) → Linked states links 0 → MetHolds sheet states links (record { count = 0; over = false }) []
-nothing_kept sheet states links none = record {
-  linked = none;
-  all = λ _. record { many = refl; keys = λ i h. absurd (omega arith) };
-  more = λ o. absurd (true≢false (sym o));
+-- One that is new has the next place once it is appended.
+place_own : (states : List Allocation) (a : Allocation) → place_of states a ≡ length states → place_of (states ++ a ∷ []) a ≡ length states
+unfolding place_of
+place_own [] a h = rw (same_own a, place_of)
+place_own (x ∷ states) a h = elim (either (same_allocation x a)) [
+  | inl t ↦ absurd (omega (arith, rw (t, place_of) at h))
+  | inr f ↦ rw (f, place_of) (ap suc (place_own states a (omega (arith, rw (f, place_of) at h))))
+]
+
+-- What is met with one more.
+pub known_met : (states : List Allocation) (a : Allocation) → place_of states a < length states → met_with states a ≡ states
+unfolding met_with
+known_met states a h = rw (lt-ltb _ _ h, met_with)
+
+pub new_met : (states : List Allocation) (a : Allocation) → place_of states a ≡ length states → met_with states a ≡ states ++ a ∷ []
+unfolding met_with
+new_met states a e = rw (le-ltb (place_of states a) (length states) (omega arith), met_with)
+
+-- The states that keys stand for.
+module _ (keys links slots : List ℕ) (count : ℕ) (linked : Linked keys links slots count) (long : length keys ≡ state_limit) where
+  pub kept_many : length (states_of keys count) ≡ count
+  kept_many = length-map (take count keys) state_of ∙ length-take-le count keys (omega (arith, linked.few))
+
+  pub kept_there : (i : ℕ) → i < count → get_or (states_of keys count) i first_allocation ≡ state_of (get_or keys i 0)
+  kept_there i h =
+      get_or-map state_of (take count keys) i 0 first_allocation (omega (arith, length-take-le count keys (omega (arith, linked.few))))
+      ∙ ap state_of (get_or-take count keys i 0 h)
+
+  -- A state is at the place of its key.
+  module _ (key : ℕ) (small : key < key_limit) where
+    other : (j : ℕ) → j < count → (get_or keys j 0 ≡ key → ⊥) → get_or (states_of keys count) j first_allocation ≡ state_of key → ⊥
+    other j h ne e = ne (key_same (get_or keys j 0) key (linked.small j h) small (sym (kept_there j h) ∙ e))
+
+    pub found : (r : ℕ) → r < count → get_or keys r 0 ≡ key → Finds (states_of keys count) (state_of key) r
+    found r h e = record {
+      few = omega (arith, linked.few);
+      within = rw kept_many h;
+      is = sym (place_first (states_of keys count) (state_of key) r (rw kept_many (omega arith))
+          (λ j o. other j (omega arith) (λ q. linked.apart j r o h (q ∙ sym e))) (λ _. kept_there r h ∙ ap state_of e));
+    }
+
+    pub not_found : ((j : ℕ) → j < count → get_or keys j 0 ≡ key → ⊥) → place_of (states_of keys count) (state_of key) ≡ length (states_of keys count)
+    not_found others =
+        rw kept_many (place_first (states_of keys count) (state_of key) count (rw kept_many (omega arith)) (λ j o. other j o (others j o))
+        (λ o. absurd (omega (arith, kept_many))))
+
+    -- No key is that of a state that is not there.
+    pub no_key : place_of (states_of keys count) (state_of key) ≡ length (states_of keys count) → (j : ℕ) → j < count → get_or keys j 0 ≡ key → ⊥
+    no_key e j h q = omega (arith, (found j h q).is, (found j h q).within)
+
+    -- It is kept after the others.
+    pub kept_more : count < state_limit → states_of (set keys count key) (count + 1) ≡ states_of keys count ++ state_of key ∷ []
+    kept_more room = ap (map state_of) (take_more_set keys count key (omega (arith, long))) ∙ map-append state_of (take count keys) (key ∷ [])
+
+-- A state met: it was there, or is appended.
+pub meets_known : (states : List Allocation) (a : Allocation) (number : ℕ) → Finds states a number → Meets states a number states
+meets_known states a number finds = record { few = omega (arith, finds.few); met = sym (known_met states a (omega (arith, finds.is, finds.within))); is = finds.is }
+
+pub meets_new : (states after : List Allocation) (a : Allocation) (number : ℕ) → number < state_limit → place_of states a ≡ length states → number ≡ length states
+    → after ≡ states ++ a ∷ [] → Meets states a number after
+meets_new states after a number few new e more = record {
+  few = omega arith;
+  met = more ∙ sym (new_met states a new);
+  is = rw more (e ∙ sym (place_own states a new));
 }
 
--- The state that key i gives back is entry i's.
-pub state_at : (states : List ℕ) (i : ℕ) (a : Allocation) → a ≡ state_of (get_or states i 0) → StateAt states i a
-state_at states i a e = record { state = λ sheet count l keeps h. sym (keeps.keys i (omega (arith, keeps.many))).state ∙ sym e }
-
--- A state met, which has the key.
-module _ (states links : List ℕ) (met : Met) (a : Allocation) (key number : ℕ) (is : KeyIs key a) (linked : Linked states links met.count)
-    (finds : Finds states met.count key number) where
-  -- Of the entries kept it is that which it was found to be.
-  module _ (sheet : Sheet) (l : List (Entry (allocations sheet))) (e : Entry (allocations sheet)) (q : e.node ≡ a)
-      (keeps : Keeps sheet states met.count l) where
-    found_at : number ≡ number_of (allocations sheet) l e.node
-    found_at = rw q (number_first (allocations sheet) l a number (omega (arith, keeps.many, finds.within))
-        (λ j o. other_key sheet _ key _ a (keeps.keys j (omega (arith, keeps.many, finds.within))) is (finds.others j o))
-        (λ o. same_key sheet _ key _ a (keeps.keys number o) is (finds.there (omega (arith, keeps.many)))))
-
-    -- It is new: it is appended.
-    module _ (h : met.count ≤ number) where
-      appended : meet (allocations sheet) l e ≡ l ++ e ∷ []
-      appended = meet_new (allocations sheet) l e (rw (← found_at) (omega (arith, keeps.many)))
-
-      one_more : length (meet (allocations sheet) l e) ≡ length l + 1
-      one_more = rw appended (length-append l (e ∷ []))
-
-  -- It was kept already.
-  pub meets_known : number < met.count → Meets states links met a met number states links
-  meets_known h = record {
-    meets = λ sheet l e q holds.
-        record { linked = linked; all = λ o. rw (known sheet l e q (holds.all o)) (holds.all o); more = λ o. still_more (allocations sheet) state_limit l e (holds.more o) };
-    numbers = λ sheet l e q holds o. let keeps = holds.all o in rw (known sheet l e q keeps) (found_at sheet l e q keeps);
-    few = omega (arith, linked.few);
-  }
-    where
-      known : (sheet : Sheet) (l : List (Entry (allocations sheet))) (e : Entry (allocations sheet)) → e.node ≡ a → Keeps sheet states met.count l
-          → meet (allocations sheet) l e ≡ l
-      known sheet l e q keeps = meet_known (allocations sheet) l e (rw (← found_at sheet l e q keeps) (omega (arith, keeps.many)))
-
-  -- There is no room for it.
-  pub meets_over : met.count ≤ number → met.count ≡ state_limit → Meets states links met a (record { count = met.count; over = true }) number states links
-  meets_over h full = record {
-    meets = λ sheet l e q holds. record {
-      linked = linked;
-      all = λ o. absurd (true≢false o);
-      more = λ _. elim (either met.over) [
-        | inl o ↦ still_more (allocations sheet) state_limit l e (holds.more o)
-        | inr o ↦ let keeps = holds.all o in omega (arith, one_more sheet l e q keeps h, keeps.many)
-      ];
-    };
-    numbers = λ sheet l e q holds o. absurd (true≢false o);
-    few = omega (arith, finds.within);
-  }
-
-  -- There is room for it after the others, by its key.
-  module _ (h : met.count ≤ number) (some : met.count ≡ state_limit → ⊥) where
-    last : number ≡ met.count
-    last = omega (arith, finds.within)
-
-    room : met.count < state_limit
-    room = omega (arith, linked.few, some)
-
-    pub keep_asks : KeepAsks states links met.count key
-    keep_asks = record { linked = linked; new = rw last at finds; room = room }
-
-    pub meets_new : (after relinked : List ℕ) → Kept states met.count key after relinked
-        → Meets states links met a (record { count = met.count + 1; over = met.over }) number after relinked
-    meets_new after relinked kept = record {
-      meets = λ sheet l e q holds. record {
-        linked = kept.linked;
-        all = λ o. let keeps = holds.all o in record {
-          many = rw (one_more sheet l e q keeps h) (omega (arith, keeps.many));
-          keys = rw (appended sheet l e q keeps h) (stored sheet l e q keeps);
-        };
-        more = λ o. still_more (allocations sheet) state_limit l e (holds.more o);
-      };
-      numbers = λ sheet l e q holds o.
-          let keeps = holds.all o in
-          let new : length l ≤ number_of (allocations sheet) l e.node = rw (← found_at sheet l e q keeps) (omega (arith, keeps.many)) in
-          rw (appended sheet l e q keeps h) (last ∙ keeps.many ∙ sym (number_own (allocations sheet) (allocations_decide sheet) l e new));
-      few = omega (arith, room, last);
-    }
-      where
-        own : get_or after met.count 0 ≡ key
-        own = rw kept.there (get_or-set_same states met.count key 0 (omega (arith, room, linked.long)))
-
-        stored : (sheet : Sheet) (l : List (Entry (allocations sheet))) (e : Entry (allocations sheet)) → e.node ≡ a → Keeps sheet states met.count l
-            → (i : ℕ) → i < length (l ++ e ∷ []) → KeyIs (get_or after i 0) (entry (allocations sheet) (l ++ e ∷ []) i).node
-        stored sheet l e q keeps i o = elim (eq-or-lt_of_le (le_of_suc-le-suc (rw (length-append, add-one) at o))) [
-          | inl p ↦ rw (p, get_or-append_seam l e [] (first_entry (allocations sheet)), ← keeps.many, own, q) is
-          | inr p ↦
-              rw (get_or-append l (e ∷ []) (first_entry (allocations sheet)) i p, kept.there, get_or-set_other states met.count i key 0 (omega (arith, keeps.many)))
-              (keeps.keys i p)
-        ]
+-- There is no room for one that is new.
+pub meets_over : (states : List Allocation) (a : Allocation) → place_of states a ≡ length states → state_limit ≤ length states → TooMany (met_with states a) Refusal.States
+meets_over states a new full = record { number = refl; more = rw (new_met states a new, length-append) (omega arith) }

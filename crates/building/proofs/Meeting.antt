@@ -1,223 +1,239 @@
--- One turn of each loop of the exploration, on plain values: the states kept are the entries that the definition meets, and the rows made are theirs, until
+-- Each turn of the loops of the exploration, on plain values: the states met are those of the entries that the definition meets, and the rows made are theirs, until
 -- there are too many.
 use Prim.Native.Nat.{ℕ, suc, ◌+◌, ◌≤◌, ◌<◌}
 use mathlib.Core.Path.{◌≡◌, refl, sym, ap, ◌∙◌}
 use mathlib.Core.Logic.{inl, inr}
-use mathlib.Core.Bool.{true, false, true≢false}
-use mathlib.Core.List.{List, []}
-use native.Mathlib.Decide.{ℕ_discrete}
+use mathlib.Core.List.{List, [], ◌∷◌}
+use native.Mathlib.Decide.{dec_lt, ℕ_discrete}
 use native.Mathlib.Nat.{zero-add, mul-le-mul_left}
 use native.Mathlib.Numerals.{add-one}
 use native.Mathlib.Omega.{arith}
 use lib.Dec.{eqb}
-use lib.ListN.{length}
-use borrow.Author.Tests.{lt-ltb, eq-eqb, ne_eqb}
-use Rattle.convention.specs.declared.Head.{Head}
-use Rattle.convention.specs.declared.SheetKind.{SheetKind}
+use lib.ListN.{length, get_or}
+use borrow.Author.Tests.{eq-eqb, ne_eqb}
+use Rattle.std.proofs.lemmas.List.{get_or-map, length-map, map-append}
 use Rattle.convention.specs.declared.Sheet.{Sheet}
 use Rattle.convention.specs.declared.Placement.{Placement}
 use Rattle.convention.specs.declared.Allocation.{Allocation}
+use Rattle.convention.specs.declared.Refusal.{Refusal}
 use Rattle.convention.specs.Numbers.{state_limit}
 use Rattle.convention.specs.Bytes.{written}
 use Rattle.convention.specs.Layout.{transition_length, row_length, rows_length, in_row}
 use Rattle.convention.specs.Sheets.{sheet_kind}
 use Rattle.convention.specs.Tables.{transition_bytes}
+use Rattle.convention.specs.Promised.{SheetRead}
 use Rattle.convention.specs.Rules.{place_fault}
-use Rattle.convention.specs.Explored.{Automaton, Entry, first_entry, number as number_of, meet, met_from, through, met as met_before}
-use Rattle.convention.specs.Built.{allocations, made, built_cell, built_row, built_states, first_allocation}
+use Rattle.convention.specs.Explored.{Automaton, Entry, first_entry, entry, number, meet, met_from, met as met_before}
+use Rattle.convention.specs.Built.{same_allocation, allocations, made, built_cell, built_row, built_states, first_allocation}
 use Rattle.convention.proofs.Runs.{either}
-use Rattle.convention.proofs.Numbering.{met_from_grows, met_grows, whole, up_to_node}
-use Rattle.building.specs.declared.memory.Met.{Met}
-use Rattle.building.specs.Deciding.{rows_version, DecidedIs}
-use Rattle.building.specs.Holding.{MetHolds, StateAt, Meets, LeadIs, MeetsLed, Passes, PassKindsAsks, PassesKinds, PassingKinds, ExploreAsks, Exploring}
-use Rattle.building.proofs.Leading.{lead_of}
+use Rattle.convention.proofs.Numbering.{meet_known, meet_new, met_from_grows, met_grows, whole, up_to_all, up_to_node}
+use Rattle.building.specs.Deciding.{rows_version, rows_most, DecidedIs, ManyStates}
+use Rattle.building.specs.Holding.{nodes, place_of, met_with, met_by, cell_by, Meets, TooMany, LeadIs, MeetsLed, Passes, PassKindsAsks, PassesKinds, PassingKinds, Exploring}
 use Rattle.building.proofs.Readable.{cell_wide, row_wide}
-use Rattle.building.proofs.Keeping.{nothing_kept}
+use Rattle.building.proofs.Keeping.{place_within, known_met, new_met}
 use Rattle.building.proofs.Writing.{blocks_begin, blocks_on, blocks_end, rows_room, rows_made}
 use Rattle.building.proofs.Staying.{nowhere_made, cell_stays}
 
--- The state after a place met, where there is one.
-module _ (place : Placement) (next : Allocation) (states links : List ℕ) (met : Met) (fault : ℕ) (e : fault ≡ place_fault place) where
-  pub led_on : (r : Met) (number : ℕ) (after relinked : List ℕ) → fault ≡ 0 → Meets states links met next r number after relinked
-      → MeetsLed place next states links met r number after relinked
-  led_on r number after relinked z meets = record { few = meets.few; on = λ _. meets; nowhere = λ nz. absurd (nz (sym e ∙ z)) }
-
-  pub led_nowhere : (fault ≡ 0 → ⊥) → MeetsLed place next states links met met 0 states links
-  led_nowhere nz = record { few = omega arith; on = λ z. absurd (nz (e ∙ z)); nowhere = λ _ sheet l holds. holds }
-
--- One kind gone through at a state: what it leads to is met, and its transition is made.
-module _ (h : Head) (kind : SheetKind) (a : Allocation) (place : Placement) (next : Allocation) (lead : LeadIs h kind a place next)
-    (met : Met) (states links rows : List ℕ) (at : ℕ) where
-  -- Of kind k of a sheet.
-  module _ (sheet : Sheet) (k : ℕ) (eh : h ≡ sheet.head) (ek : kind ≡ sheet_kind sheet k) where
-    lead_at : LeadIs sheet.head (sheet_kind sheet k) a place next
-    lead_at = lead_of sheet k h kind a place next eh ek lead
-
-    goes : eqb (place_fault place) 0 ≡ (allocations sheet).goes a k
-    goes = rw (← lead_at.placed)
-
-    -- What was met with it: one entry more, or none.
-    module _ (l : List (Entry (allocations sheet))) (i : ℕ) where
-      abbrev before : List (Entry (allocations sheet))
-      before = met_from (allocations sheet) l a i k
-
-      abbrev there : Entry (allocations sheet)
-      there = record { node = (allocations sheet).next a k; parent = i; kind = k }
-
-      met_on : place_fault place ≡ 0 → met_from (allocations sheet) l a i (k + 1) ≡ meet (allocations sheet) before there
-      unfolding met_from
-      met_on z = rw (add-one, met_from, ← goes, eq-eqb _ 0 z)
-
-      met_nowhere : (place_fault place ≡ 0 → ⊥) → met_from (allocations sheet) l a i (k + 1) ≡ before
-      unfolding met_from
-      met_nowhere nz = rw (add-one, met_from, ← goes, ne_eqb _ 0 nz)
-
-      -- The transition is made of the place to which the kind leads, with the next state's number.
-      cell_made : (number : ℕ) → number ≡ number_of (allocations sheet) (met_from (allocations sheet) l a i (k + 1)) ((allocations sheet).next a k)
-          → written rows at (transition_bytes rows_version (made h.modulus place number))
-          ≡ written rows at (built_cell rows_version sheet (met_from (allocations sheet) l a i (k + 1)) a k)
-      unfolding built_cell
-      cell_made number en = rw (en, lead_at.placed, eh)
-
-  pub passes : (r : Met) (number : ℕ) (after relinked written' : List ℕ) → MeetsLed place next states links met r number after relinked
-      → written' ≡ written rows at (transition_bytes rows_version (made h.modulus place number))
-      → Passes h kind a met states links rows at r after relinked written'
-  passes r number after relinked written' led ew = elim (ℕ_discrete (place_fault place) 0) [
-    | yes z ↦ let meets = led.on z in record {
-      passes = λ sheet k eh ek l i holds. rw (met_on sheet k eh ek l i z) (meets.meets sheet _ _ (sym (lead_at sheet k eh ek).after) holds);
-      cell = λ sheet k eh ek l i holds o.
-          let own = meets.numbers sheet _ (there sheet k eh ek l i) (sym (lead_at sheet k eh ek).after) holds o in
-          ew ∙ cell_made sheet k eh ek l i number (rw (met_on sheet k eh ek l i z) own);
-    }
-    | no nz ↦ record {
-      passes = λ sheet k eh ek l i holds. rw (met_nowhere sheet k eh ek l i nz) (led.nowhere nz sheet _ holds);
-      cell = λ sheet k eh ek l i holds o.
-          ew ∙ ap (λ x. written rows at (transition_bytes rows_version x)) (nowhere_made h.modulus place number _ nz) ∙ cell_made sheet k eh ek l i _ refl;
-    }
-  ]
-
--- Nothing was over before if nothing is now.
-was_whole : (sheet : Sheet) (met r : Met) (states links after relinked : List ℕ) (l l' : List (Entry (allocations sheet))) → MetHolds sheet states links met l
-    → MetHolds sheet after relinked r l' → length l ≤ length l' → r.over ≡ false → met.over ≡ false
-was_whole sheet met r states links after relinked l l' holds now longer o = elim (either met.over) [
-  | inl m ↦ absurd (omega (arith, holds.more m, (now.all o).many, now.linked.few))
-  | inr f ↦ f
-]
-
--- State i gone through, before kind k of it.
-module _ (sheet : Sheet) (i : ℕ) (met₀ : Met) (states₀ links₀ rows₀ : List ℕ) (asks : PassKindsAsks sheet i met₀ states₀ links₀ rows₀) where
+module _ (sheet : Sheet) where
   abbrev X : Automaton
   X = allocations sheet
 
-  abbrev cells : Allocation → ℕ → List ℕ
-  cells = built_cell rows_version sheet (built_states state_limit sheet)
+  -- A state's number among the states is that among the entries, and the same is met with one more.
+  number_place : (l : List (Entry X)) (a : Allocation) → place_of (nodes sheet l) a ≡ number X l a
+  unfolding number place_of
+  number_place [] a = refl
+  number_place (e ∷ l) a = elim (either (same_allocation e.node a)) [
+    | inl t ↦ rw (t, number, place_of)
+    | inr f ↦ rw (f, number, place_of) (ap suc (number_place l a))
+  ]
 
-  inside : i < length (met_before X i)
-  inside = omega (arith, asks.inside, (asks.holds.all asks.whole).many)
+  nodes_many : (l : List (Entry X)) → length (nodes sheet l) ≡ length l
+  nodes_many l = length-map l (λ (e : Entry X). e.node)
+
+  nodes_met : (l : List (Entry X)) (e : Entry X) → met_with (nodes sheet l) e.node ≡ nodes sheet (meet X l e)
+  nodes_met l e = elim (dec_lt (number X l e.node) (length l)) [
+    | yes h ↦ rw (meet_known X l e h) (known_met (nodes sheet l) e.node (omega (arith, number_place l e.node, nodes_many l)))
+    | no h ↦
+        let new = new_met (nodes sheet l) e.node (omega (arith, number_place l e.node, nodes_many l, place_within (nodes sheet l) e.node)) in
+        rw (meet_new X l e (omega arith), map-append (λ (x : Entry X). x.node) l (e ∷ [])) new
+  ]
+
+  node_at : (l : List (Entry X)) (i : ℕ) (a : Allocation) → i < length l → a ≡ get_or (nodes sheet l) i first_allocation → (entry X l i).node ≡ a
+  node_at l i a h e = sym (e ∙ get_or-map (λ (x : Entry X). x.node) l i (first_entry X) first_allocation h)
+
+  -- One kind more gone through from state a, which is entry i.
+  module _ (l : List (Entry X)) (a : Allocation) (i k : ℕ) where
+    from_more : met_by sheet k a (nodes sheet (met_from X l a i k)) ≡ nodes sheet (met_from X l a i (suc k))
+    unfolding met_from met_by
+    from_more = elim (either (X.goes a k)) [
+      | inl t ↦ rw (t, met_by, met_from) (nodes_met (met_from X l a i k) (record { node = X.next a k; parent = i; kind = k }))
+      | inr f ↦ rw (f, met_by, met_from)
+    ]
+
+  cell_among : (l : List (Entry X)) (a : Allocation) (k : ℕ) → cell_by sheet k a (nodes sheet l) ≡ built_cell rows_version sheet l a k
+  unfolding cell_by built_cell
+  cell_among l a k = rw (number_place l (X.next a k))
+
+-- One kind gone through at a state: what it leads to is met, and its transition is made.
+module _ (sheet : Sheet) (k : ℕ) (a : Allocation) (place : Placement) (next : Allocation) (lead : LeadIs sheet.head (sheet_kind sheet k) a place next)
+    (states : List Allocation) where
+  goes : eqb (place_fault place) 0 ≡ (allocations sheet).goes a k
+  goes = rw (← lead.placed)
+
+  by_on : place_fault place ≡ 0 → met_by sheet k a states ≡ met_with states next
+  unfolding met_by
+  by_on z = rw (← goes, eq-eqb _ 0 z, met_by, lead.after)
+
+  by_nowhere : (place_fault place ≡ 0 → ⊥) → met_by sheet k a states ≡ states
+  unfolding met_by
+  by_nowhere nz = rw (← goes, ne_eqb _ 0 nz, met_by)
+
+  pub pass_over : (refusal : Refusal) → (place_fault place ≡ 0) × TooMany (met_with states next) refusal → TooMany (met_by sheet k a states) refusal
+  pass_over refusal over = rw (by_on over.0) over.1
+
+  pub passes : (n : ℕ) (after : List Allocation) (rows : List ℕ) (at : ℕ) (made' : List ℕ) → MeetsLed place next states n after
+      → made' ≡ written rows at (transition_bytes rows_version (made sheet.head.modulus place n)) → Passes sheet k a states rows at after made'
+  unfolding cell_by
+  passes n after rows at made' led e = elim (ℕ_discrete (place_fault place) 0) [
+    | yes z ↦ let meets = led.on z in record { met = rw (by_on z) meets.met; cell = e ∙ rw (meets.is, lead.placed, lead.after) }
+    | no nz ↦ record {
+      met = rw (by_nowhere nz) (led.nowhere nz);
+      cell =
+          e
+          ∙ ap (λ x. written rows at (transition_bytes rows_version x)) (nowhere_made sheet.head.modulus place n (place_of after next) nz)
+          ∙ rw (lead.placed, lead.after);
+    }
+  ]
+
+-- State i gone through, before kind k of it.
+module _ (sheet : Sheet) (i : ℕ) (a : Allocation) (states₀ : List Allocation) (rows₀ : List ℕ) (read : SheetRead sheet)
+    (asks : PassKindsAsks sheet i a states₀ rows₀) where
+  abbrev Y : Automaton
+  Y = allocations sheet
+
+  abbrev cells : ℕ → List ℕ
+  cells = built_cell rows_version sheet (built_states state_limit sheet) a
+
+  inside : i < length (met_before Y i)
+  inside = omega (arith, asks.inside, ap length asks.holds, nodes_many sheet (met_before Y i))
 
   below : i < state_limit
-  below = omega (arith, asks.inside, asks.holds.linked.few)
+  below = omega (arith, asks.inside, asks.few)
 
-  pub passing_begin : (a : Allocation) → PassingKinds sheet a i 0 rows₀ met₀ states₀ links₀ rows₀
+  node : (entry Y (met_before Y i) i).node ≡ a
+  node = node_at sheet (met_before Y i) i a inside (rw asks.holds at asks.is)
+
+  all : met_before Y (suc i) ≡ met_from Y (met_before Y i) a i sheet.head.kinds
+  all = up_to_all Y i inside ∙ rw node
+
+  pub passing_begin : PassingKinds sheet a i 0 rows₀ states₀ rows₀
   unfolding met_from
-  passing_begin a = record { within = omega arith; long = refl; holds = asks.holds; cells = λ _. blocks_begin (cells a) _ _ rows₀ }
+  passing_begin = record { holds = asks.holds; cells = blocks_begin cells _ _ rows₀ }
 
-  module _ (a : Allocation) (k : ℕ) (met : Met) (states links rows : List ℕ) (passing : PassingKinds sheet a i k rows₀ met states links rows) where
+  module _ (k : ℕ) (states : List Allocation) (rows : List ℕ) (passing : PassingKinds sheet a i k rows₀ states rows) where
+    more : met_by sheet k a states ≡ nodes sheet (met_from Y (met_before Y i) a i (suc k))
+    more = rw passing.holds (from_more sheet (met_before Y i) a i k)
+
     -- Kind k: its transition has room among the rows, and is the one that comes next.
     module _ (h : k < sheet.head.kinds) (row at : ℕ) (er : row ≡ rows_length rows_version sheet.head i) (ea : at ≡ in_row rows_version row k) where
       cell_room : in_row rows_version (rows_length rows_version sheet.head i) k + transition_length rows_version ≤ length rows₀
       cell_room =
-          let whole = rows_room sheet.head (suc i) asks.read.head.kinds below in
+          let whole = rows_room sheet.head (suc i) read.head.kinds below in
           omega (arith, whole, asks.room, mul-le-mul_left (transition_length rows_version) h)
 
       pub cell_there : at + transition_length rows_version ≤ length rows
-      cell_there = rw (ea, er, passing.long) cell_room
+      cell_there = rw (ea, er, passing.cells.long) cell_room
 
-      pub passing_on : (r : Met) (after relinked made : List ℕ) → StateAt states₀ i a → length made ≡ length rows
-          → Passes sheet.head (sheet_kind sheet k) a met states links rows at r after relinked made → PassingKinds sheet a i (k + 1) rows₀ r after relinked made
-      passing_on r after relinked made from same passes =
-          let now = passes.passes sheet k refl refl _ i passing.holds in
-          let node = from.state sheet _ _ (asks.holds.all asks.whole) asks.inside in
+      pub passing_on : (after : List Allocation) (made : List ℕ) → Passes sheet k a states rows at after made → PassingKinds sheet a i (k + 1) rows₀ after made
+      passing_on after made passes =
+          let now : after ≡ nodes sheet (met_from Y (met_before Y i) a i (suc k)) = passes.met ∙ more in
+          let cell = cell_among sheet (met_from Y (met_before Y i) a i (suc k)) a k ∙ cell_stays rows_version sheet i k state_limit a inside h below node in
           record {
-            within = omega arith;
-            long = same ∙ passing.long;
-            holds = now;
-            cells = λ o.
-                let before = passing.cells (was_whole sheet met r _ _ _ _ _ _ passing.holds now (met_from_grows X (met_before X i) a i k (k + 1) (omega arith)).longer o) in
-                let cell = passes.cell sheet k refl refl _ i passing.holds o in
-                blocks_on (cells a) _ _ rows₀ (transition_length rows_version) k rows made (cell_wide rows_version sheet _ a) before h cell_room
-                (rw (ea, er, add-one, cell_stays rows_version sheet i k state_limit a inside h below node) at cell);
+            holds = rw add-one now;
+            cells =
+                blocks_on cells _ _ rows₀ (transition_length rows_version) k rows made (cell_wide rows_version sheet _ a) passing.cells h cell_room
+                (rw (ea, er, now, cell) at passes.cell);
+          }
+
+      -- Too many were met: going on meets no fewer.
+      pub passing_over : (refusal : Refusal) → TooMany (met_by sheet k a states) refusal → TooMany (nodes sheet (met_before Y (i + 1))) refusal
+      passing_over refusal over =
+          let longer = (met_from_grows Y (met_before Y i) a i (suc k) sheet.head.kinds h).longer in
+          record {
+            number = over.number;
+            more = rw (add-one, all) (omega (
+              arith,
+              over.more,
+              ap length more,
+              nodes_many sheet (met_from Y (met_before Y i) a i (suc k)),
+              nodes_many sheet (met_from Y (met_before Y i) a i sheet.head.kinds),
+              longer,
+            ));
           }
 
     -- After the last kind.
-    pub passing_end : StateAt states₀ i a → sheet.head.kinds ≤ k → PassesKinds sheet i rows₀ met states links rows
-    unfolding met_before through built_row
-    passing_end from h =
-        let last : k ≡ sheet.head.kinds = omega (arith, passing.within) in
-        let node = from.state sheet _ _ (asks.holds.all asks.whole) asks.inside in
+    pub passing_end : sheet.head.kinds ≤ k → PassesKinds sheet i rows₀ states rows
+    unfolding built_row
+    passing_end h =
+        let last : k ≡ sheet.head.kinds = omega (arith, passing.cells.within) in
         record {
-          holds = rw (add-one, lt-ltb _ _ inside, through, node) (rw last at passing.holds);
-          row = λ o. rw (up_to_node X i inside state_limit below, node) (blocks_end (cells a) _ _ rows₀ k rows (passing.cells o) h);
+          holds = rw (add-one, all) (rw last at passing.holds);
+          row = rw (up_to_node Y i inside state_limit below, node) (blocks_end cells _ _ rows₀ k rows passing.cells h);
         }
 
 -- The exploration, before state i is gone through.
-module _ (sheet : Sheet) (states₀ links₀ rows₀ : List ℕ) (asks : ExploreAsks sheet states₀ links₀ rows₀) where
+module _ (sheet : Sheet) (rows₀ : List ℕ) (read : SheetRead sheet) (room : rows_most ≤ length rows₀) where
   abbrev row : ℕ → List ℕ
   row = built_row rows_version sheet (built_states state_limit sheet)
 
+  abbrev Z : Automaton
+  Z = allocations sheet
+
   -- The first state alone was met.
-  pub exploring_begin : (first : Allocation) (r : Met) (number : ℕ) (after relinked : List ℕ) → first ≡ first_allocation
-      → Meets states₀ links₀ (record { count = 0; over = false }) first r number after relinked → Exploring sheet 0 rows₀ r after relinked rows₀
-  unfolding met_before meet number_of
-  exploring_begin first r number after relinked e meets = record {
-    within = omega arith;
-    long = refl;
-    holds = meets.meets sheet [] (first_entry (allocations sheet)) (sym e) (nothing_kept sheet states₀ links₀ asks.none);
-    passed = λ _. omega arith;
-    done = λ _. blocks_begin row 0 state_limit rows₀;
+  pub exploring_begin : (first : Allocation) (n : ℕ) (after : List Allocation) → first ≡ first_allocation → Meets [] first n after
+      → Exploring sheet 0 rows₀ after rows₀
+  unfolding met_before met_with place_of
+  exploring_begin first n after e meets = record {
+    holds = rw e at meets.met;
+    passed = omega arith;
+    done = blocks_begin row 0 state_limit rows₀;
   }
 
-  module _ (i : ℕ) (met : Met) (states links rows : List ℕ) (exploring : Exploring sheet i rows₀ met states links rows) where
-    -- State i is gone through.
-    module _ (h : i < met.count) where
-      pub state_asks : met.over ≡ false → PassKindsAsks sheet i met states links rows
-      state_asks o = record { read = asks.decide.read; holds = exploring.holds; whole = o; inside = h; room = rw exploring.long asks.decide.room }
+  module _ (i : ℕ) (states : List Allocation) (rows : List ℕ) (exploring : Exploring sheet i rows₀ states rows) where
+    many : length states ≡ length (met_before Z i)
+    many = ap length exploring.holds ∙ nodes_many sheet (met_before Z i)
 
-      pub exploring_on : (r : Met) (after relinked made : List ℕ) → length made ≡ length rows → PassesKinds sheet i rows r after relinked made
-          → Exploring sheet (i + 1) rows₀ r after relinked made
-      exploring_on r after relinked made same passes =
-          let grown = (met_grows (allocations sheet) i (i + 1) (omega arith)).longer in
-          let was : r.over ≡ false → met.over ≡ false = λ o. was_whole sheet met r _ _ _ _ _ _ exploring.holds passes.holds grown o in
-          let below : i < state_limit = omega (arith, exploring.holds.linked.few) in
+    -- State i is gone through.
+    module _ (few : length states ≤ state_limit) (h : i < length states) where
+      pub exploring_on : (after : List Allocation) (made : List ℕ) → PassesKinds sheet i rows after made → Exploring sheet (i + 1) rows₀ after made
+      exploring_on after made passes =
+          let grown = (met_grows Z i (i + 1) (omega arith)).longer in
           record {
-            within = omega arith;
-            long = same ∙ exploring.long;
             holds = passes.holds;
-            passed = λ o. omega (arith, (exploring.holds.all (was o)).many, (passes.holds.all o).many, grown);
-            done = λ o.
-                blocks_on row 0 state_limit rows₀ (row_length rows_version sheet.head) i rows made (row_wide rows_version sheet _) (exploring.done (was o)) below
-                (omega (arith, rows_room sheet.head (suc i) asks.decide.read.head.kinds below, asks.decide.room)) (rw zero-add (passes.row o));
+            passed = omega (arith, many, grown, ap length passes.holds, nodes_many sheet (met_before Z (i + 1)));
+            done =
+                blocks_on row 0 state_limit rows₀ (row_length rows_version sheet.head) i rows made (row_wide rows_version sheet _) exploring.done (omega arith)
+                (omega (arith, rows_room sheet.head (suc i) read.head.kinds (omega arith), room)) (rw zero-add passes.row);
           }
 
-    -- Too many were met: going on meets no fewer.
-    pub exploring_over : met.over ≡ true → DecidedIs sheet met.count met.over rows
-    exploring_over o = record {
-      few = exploring.holds.linked.few;
-      all = λ f. absurd (true≢false (sym o ∙ f));
-      more = λ _. omega (arith, exploring.holds.more o, (met_grows (allocations sheet) i state_limit exploring.within).longer);
-    }
+      -- Too many were met: going on meets no fewer.
+      pub exploring_over : (refusal : Refusal) → TooMany (nodes sheet (met_before Z (i + 1))) refusal → ManyStates sheet refusal
+      exploring_over refusal over = record {
+        number = over.number;
+        more = omega (arith, over.more, nodes_many sheet (met_before Z (i + 1)), (met_grows Z (i + 1) state_limit (omega arith)).longer);
+      }
 
     -- All that were met were gone through: going on meets nothing more.
-    pub exploring_end : met.count ≤ i → DecidedIs sheet met.count met.over rows
-    exploring_end h = elim (either met.over) [
-      | inl o ↦ exploring_over o
-      | inr f ↦ record {
-        few = exploring.holds.linked.few;
-        all = λ o.
-            let keeps = exploring.holds.all o in
-            let last : i ≡ met.count = omega (arith, exploring.passed o) in
-            let same = whole (allocations sheet) i state_limit (omega (arith, keeps.many)) exploring.within in
-            record { many = rw same keeps.many; made = rows_made sheet met.count rows₀ rows (rw last at (exploring.done o).there) };
-        more = λ o. absurd (true≢false (sym o ∙ f));
-      }
-    ]
+    pub exploring_end : length states ≤ state_limit → length states ≤ i → DecidedIs sheet (length states) rows
+    exploring_end few h =
+        let last : i ≡ length states = omega (arith, exploring.passed) in
+        let same = whole Z i state_limit (omega (arith, many)) (omega (arith, few)) in
+        record {
+          few = few;
+          all = record { many = rw same many; made = rows_made sheet (length states) rows₀ rows (rw last at exploring.done.there) };
+        }
+
+-- There is room for the first state.
+pub first_fits : (sheet : Sheet) (a : Allocation) (refusal : Refusal) → TooMany (met_with [] a) refusal → ManyStates sheet refusal
+unfolding met_with place_of
+first_fits sheet a refusal over = absurd (omega (arith, over.more))

@@ -1,27 +1,23 @@
 -- Laws of writing the table: stores one after the other, blocks one after the other, and the parts put together.
-use Prim.Native.Nat.{ℕ, ◌+◌, ◌-◌, ◌*◌, ◌/◌, ◌%◌, ◌≤◌, ◌<◌, zero-le}
+use Prim.Native.Nat.{ℕ, ◌+◌, ◌-◌, ◌*◌, ◌≤◌, ◌<◌, zero-le}
 use mathlib.Core.Path.{◌≡◌, refl, sym, ap, ◌∙◌}
-use mathlib.Core.List.{List, [], ◌∷◌, ◌++◌, append_assoc, append-nil}
-use native.Mathlib.Numerals.{add-one, add-two}
+use mathlib.Core.List.{List, [], ◌∷◌, ◌++◌, append_assoc}
+use native.Mathlib.Numerals.{add-one}
 use native.Mathlib.Nat.{add-zero, mul-le-mul}
 use native.Mathlib.Omega.{arith}
 use lib.ListN.{length, set, take, drop, length-append, length-take, length-drop, length-set, drop_of_length-le}
-use lib.Seq.{length-take-le, take_all, drop-drop}
 use Rattle.convention.specs.declared.Head.{Head}
 use Rattle.convention.specs.declared.Shape.{Shape}
 use Rattle.convention.specs.declared.Sheet.{Sheet}
-use Rattle.convention.specs.declared.Placement.{Placement}
-use Rattle.convention.specs.declared.Placement.TheVariants.{Registers, Stack, Nowhere}
-use Rattle.convention.specs.declared.Transition.{Transition}
 use Rattle.convention.specs.Bytes.{written, blocks}
 use Rattle.convention.specs.Numbers.{state_limit}
-use Rattle.convention.specs.Layout.{length_at, length_bytes, version_at, registers_at, width_at, modulus_at, kinds_count_at, kinds_at, size_at, alignment_at, shape_length, table_kind_at, state_length, states_at, rows_at, form_at, a_at, b_at, next_at}
-use Rattle.convention.specs.Layout.{transition_length, row_length, rows_length, row_at, table_length}
+use Rattle.convention.specs.Layout.{length_bytes, kinds_at, size_at, alignment_at, shape_length, table_kind_at, state_length, states_at, rows_at}
+use Rattle.convention.specs.Layout.{row_length, rows_length, table_length}
 use Rattle.convention.specs.Fields.{shape_bytes, state_bytes}
 use Rattle.convention.specs.Sheets.{sheet_kind}
-use Rattle.convention.specs.Tables.{transition_bytes}
+use Rattle.convention.specs.Promised.{SheetRead}
 use Rattle.convention.specs.Explored.{Entry}
-use Rattle.convention.specs.Built.{allocations, made, built_version, built_row, built_kind, built_body, table_of_states, built_states, built_table}
+use Rattle.convention.specs.Built.{allocations, built_version, built_row, built_kind, built_body, table_of_states, built_states, built_table}
 use Rattle.convention.proofs.Bytes.{length_written, written_nothing, written_sets, written_one, part_written, written_more, length_blocks, written_block}
 use Rattle.convention.proofs.Positions.{state_wide, kind_inside}
 use Rattle.building.specs.Deciding.{rows_version, rows_most, WriteAsks}
@@ -38,39 +34,8 @@ pub stored_shape : (v : ℕ) (d : List ℕ) (at : ℕ) (shape : Shape) → at + 
 unfolding shape_length shape_bytes
 stored_shape v d at shape h = rw (add-zero, add-one) (written_sets d at (shape.size ∷ shape.alignment ∷ []) h)
 
-pub stored_opening : (d : List ℕ) (v : ℕ) (h : Head) (follow : ℕ) → kinds_at ≤ length d
-    → set (set (set (set (set (set (set d length_at (follow / 256 % 256)) (length_at + 1) (follow % 256)) version_at v) registers_at h.registers) width_at h.width) modulus_at h.modulus)
-    kinds_count_at h.kinds
-    ≡ written d 0 (opening_bytes v h follow)
-stored_opening d v h follow room = written_sets d 0 (opening_bytes v h follow) room
-
-pub stored_transition : (v : ℕ) (d : List ℕ) (at : ℕ) (x : Transition) (out : List ℕ) → at + transition_length v ≤ length d
-    → out ≡ written (set (set (set d (at + form_at) x.form) (at + a_at) x.a) (at + b_at) x.b) (at + next_at) (state_bytes v x.next)
-    → out ≡ written d at (transition_bytes v x)
-stored_transition v d at x out h e =
-    e ∙ rw (add-zero, add-one, add-two, written_sets d at (x.form ∷ x.a ∷ x.b ∷ []) (omega arith))
-    (written_more d at (x.form ∷ x.a ∷ x.b ∷ []) (omega arith) (state_bytes v x.next))
-
--- What it asks of the last part, and that the memory is as long as it was.
-pub next_room : (v : ℕ) (d : List ℕ) (at : ℕ) (x : Transition) → at + transition_length v ≤ length d
-    → at + next_at + state_length v ≤ length (set (set (set d (at + form_at) x.form) (at + a_at) x.a) (at + b_at) x.b)
-next_room v d at x h = simp length-set (omega arith)
-
-pub stores_keep : (d out : List ℕ) (at i j a b c : ℕ) → length out ≡ length (set (set (set d at a) i b) j c) → length out ≡ length d
-stores_keep d out at i j a b c e = simp length-set at e
-
--- A transition's next is the number that was given, or 0.
-pub made_few : (modulus : ℕ) (place : Placement) (next : ℕ) (x : Transition) → x ≡ made modulus place next → next ≤ state_limit → x.next ≤ state_limit
-made_few modulus place next x e few = rw e (most place)
-  where
-    most : (place : Placement) → (made modulus place next).next ≤ state_limit
-    most (Registers first n) = few
-    most (Stack offset n) = few
-    most Nowhere = omega arith
-
-pub made_written : (v modulus : ℕ) (place : Placement) (next : ℕ) (x : Transition) (d : List ℕ) (at : ℕ) (out : List ℕ) → x ≡ made modulus place next
-    → out ≡ written d at (transition_bytes v x) → out ≡ written d at (transition_bytes v (made modulus place next))
-made_written v modulus place next x d at out ex e = rw ex at e
+-- For tactics.
+pub ruleset shape_stores = (stored_shape, length-set)
 
 -- The rows of as many states as a table may have are in the room for them.
 pub rows_room : (h : Head) (states : ℕ) → h.kinds ≤ 8 → states ≤ state_limit → rows_length rows_version h states ≤ rows_most
@@ -104,10 +69,6 @@ module _ (v : ℕ) (sheet : Sheet) (k : ℕ) (before out : List ℕ) (asks : Kin
   inside : table_kind_at v k + shape_length v ≤ length before
   inside = omega (arith, kind_inside v sheet.head k h, asks.there)
 
-  -- There is room for one more, and it is written.
-  pub kind_room : at + shape_length v ≤ length out
-  kind_room = rw (ea, half.long) inside
-
   pub kind_on : (after : List ℕ) → after ≡ written out at (shape_bytes v (sheet_kind sheet k).shape)
       → BlocksSoFar (built_kind v sheet) kinds_at (k + 1) sheet.head.kinds before after
   kind_on after e =
@@ -137,59 +98,38 @@ module _ (v : ℕ) (sheet : Sheet) (states : ℕ) where
   kinds = blocks (built_kind v sheet) sheet.head.kinds
 
   kinds_end : states_at v sheet.head ≡ length (opening ++ kinds)
-  kinds_end = simp (length-append, kinds_length) (omega arith)
+  kinds_end = simp kinds_length (omega arith)
 
   front_end : rows_at v sheet.head ≡ length (front_bytes v sheet states)
   front_end = rw (length-append, state_wide) (omega (arith, kinds_end))
 
-  module _ (h : Head) (len at : ℕ) (d opened named : List ℕ) (asks : FrontAsks v sheet states d)
-      (eh : h ≡ sheet.head) (el : len ≡ row_at v h states) (eo : opened ≡ written d 0 (opening_bytes v h (len - length_bytes)))
-      (en : named ≡ written opened kinds_at (blocks (built_kind v sheet) sheet.head.kinds)) (ea : at ≡ states_at v h) where
+  module _ (at : ℕ) (d opened named : List ℕ) (asks : FrontAsks v sheet states d)
+      (eo : opened ≡ written d 0 (opening_bytes v sheet.head (table_length v sheet.head states - length_bytes)))
+      (en : named ≡ written opened kinds_at (blocks (built_kind v sheet) sheet.head.kinds)) (ea : at ≡ states_at v sheet.head) where
     named_is : named ≡ written d 0 (opening ++ kinds)
-    named_is = next_part d opening kinds opened named kinds_at (rw (el, eh) at eo) refl en
-
-    -- There is room for N after the kinds, and it is written there.
-    pub states_room : at + state_length v ≤ length named
-    states_room =
-        let room : 0 + length (opening ++ kinds) ≤ length d = omega (arith, kinds_end, asks.there) in
-        rw (ea, eh, named_is, length_written d 0 (opening ++ kinds) room) asks.there
+    named_is = next_part d opening kinds opened named kinds_at eo refl en
 
     pub front_written : (out : List ℕ) → out ≡ written named at (state_bytes v states) → out ≡ written d 0 (front_bytes v sheet states)
-    front_written out e = next_part d (opening ++ kinds) (state_bytes v states) named out (states_at v sheet.head) named_is kinds_end (rw (ea, eh) at e)
-
--- A copy of the first bytes into the part from byte `at` on.
-module _ (rows d : List ℕ) (len at : ℕ) (asks : CopyAsks rows len d at) where
-  pub copy_counts : len ≡ length (take len rows)
-  copy_counts = sym (length-take-le len rows asks.made)
-
-  -- The part is what is left.
-  part : take (length d - at) (drop at d) ≡ drop at d
-  part = take_all (length d - at) (drop at d) (rw length-drop (omega arith))
-
-  pub copy_fits : length (take len rows) ≤ length (take (length d - at) (drop at d))
-  copy_fits = rw (part, length-drop, ← copy_counts) (omega (arith, asks.there))
-
-  pub copied : (copy : List ℕ) → copy ≡ take (length (take len rows)) (take len rows) ++ drop (length (take len rows)) (take (length d - at) (drop at d))
-      → take at d ++ (copy ++ drop (length d - at) (drop at d)) ≡ written d at (take len rows)
-  copied copy e =
-      let rest : drop (length d - at) (drop at d) ≡ [] = drop_of_length-le (drop at d) {i = length d - at} (rw length-drop (omega arith)) in
-      rw (e, rest, append-nil, part, take_all (length (take len rows)) (take len rows) (omega arith), drop-drop)
+    front_written out e = next_part d (opening ++ kinds) (state_bytes v states) named out (states_at v sheet.head) named_is kinds_end (rw ea at e)
 
 -- That and the rows are the table.
-module _ (sheet : Sheet) (states v : ℕ) (rows d : List ℕ) (asks : WriteAsks sheet states rows d) (ev : v ≡ built_version sheet states) where
+module _ (sheet : Sheet) (states : ℕ) (rows d : List ℕ) (read : SheetRead sheet) (asks : WriteAsks sheet states rows d) where
   abbrev l : List (Entry (allocations sheet))
   l = built_states state_limit sheet
+
+  abbrev v : ℕ
+  v = built_version sheet states
 
   -- The version is that in whose form the rows are.
   same_version : v ≡ rows_version
   unfolding built_version
-  same_version = ev
+  same_version = refl
 
   table_is : built_table state_limit sheet ≡ table_of_states v sheet l
-  table_is = rw (ev, asks.made.many)
+  table_is = rw asks.made.many
 
   table_long : length (built_table state_limit sheet) ≡ table_length v sheet.head states
-  table_long = rw (table_is, asks.made.many) (built_length v sheet l)
+  table_long = ap length table_is ∙ built_length v sheet l ∙ ap (λ n. table_length v sheet.head n) (sym asks.made.many)
 
   -- As many bytes follow the length as it says.
   follow : table_length v sheet.head states - length_bytes ≡ length (built_body v sheet l)
@@ -200,25 +140,22 @@ module _ (sheet : Sheet) (states v : ℕ) (rows d : List ℕ) (asks : WriteAsks 
   unfolding table_of_states built_body
   parts = rw (table_is, append_assoc, follow, asks.made.many)
 
-  pub front_asks : FrontAsks v sheet states d
-  front_asks = record { read = asks.read; room = asks.few; there = omega (arith, asks.there, table_long) }
+  pub front_asks : FrontAsks (built_version sheet states) sheet states d
+  front_asks = record { read = read; room = asks.few; there = omega (arith, asks.there, table_long) }
 
-  module _ (front : List ℕ) (ef : front ≡ written d 0 (front_bytes v sheet states)) (len : ℕ) (el : len ≡ rows_length rows_version sheet.head states)
-      (at : ℕ) (ea : at ≡ rows_at v sheet.head) where
+  module _ (front : List ℕ) (ef : front ≡ written d 0 (front_bytes (built_version sheet states) sheet states)) where
     -- The rows are there, and there is room for them.
-    rows_there : len ≤ length rows
-    rows_there = rw el (omega (arith, ap length asks.made.made, rows_long sheet states, length-take (rows_length rows_version sheet.head states) rows))
-
-    rows_fit : at + len ≤ length front
-    rows_fit =
+    pub copy_asks : CopyAsks rows (rows_length rows_version sheet.head states) front (rows_at (built_version sheet states) sheet.head)
+    copy_asks =
         let rows_same : row_length v sheet.head * states ≡ rows_length rows_version sheet.head states = rw same_version in
         let front_there : 0 + length (front_bytes v sheet states) ≤ length d = omega (arith, front_end v sheet states, front_asks.there) in
-        rw (ef, length_written d 0 (front_bytes v sheet states) front_there, el, ea) (omega (arith, asks.there, table_long, rows_same))
+        record {
+          made = omega (arith, ap length asks.made.made, rows_long sheet states, length-take (rows_length rows_version sheet.head states) rows);
+          there = rw (ef, length_written d 0 (front_bytes v sheet states) front_there) (omega (arith, asks.there, table_long, rows_same));
+        }
 
-    pub copy_asks : CopyAsks rows len front at
-    copy_asks = record { made = rows_there; there = rows_fit }
-
-    pub table_written : (out : List ℕ) → out ≡ written front at (take len rows) → out ≡ written d 0 (built_table state_limit sheet)
+    pub table_written : (out : List ℕ) → out ≡ written front (rows_at (built_version sheet states) sheet.head) (take (rows_length rows_version sheet.head states) rows)
+        → out ≡ written d 0 (built_table state_limit sheet)
     table_written out e =
         let rows_are : blocks (built_row v sheet l) states ≡ take (rows_length rows_version sheet.head states) rows = rw same_version (sym asks.made.made) in
-        rw (← parts) (next_part d (front_bytes v sheet states) _ front out (rows_at v sheet.head) ef (front_end v sheet states) (rw rows_are (rw (ea, el) at e)))
+        rw (← parts) (next_part d (front_bytes v sheet states) _ front out (rows_at v sheet.head) ef (front_end v sheet states) (rw rows_are e))

@@ -1,47 +1,51 @@
--- What the states that the builder keeps in memory, and the rows that it makes, have to do with the entries that the exploration meets.
-use Rattle.std.specs.Prelude.{ℕ, ◌+◌, ◌≤◌, ◌<◌, ◌≡◌, true, false, List, length, get_or}
+-- What the functions of the exploration promise of the states met, which are a list of allocation states, and of the rows that are made.
+use Rattle.std.specs.Prelude.{ℕ, suc, ◌+◌, ◌≤◌, ◌<◌, ◌≡◌, true, false, List, [], ◌∷◌, ◌++◌, ltb, map, length, get_or}
 use Rattle.convention.specs.declared.Head.{Head}
 use Rattle.convention.specs.declared.SheetKind.{SheetKind}
 use Rattle.convention.specs.declared.Allocation.{Allocation}
 use Rattle.convention.specs.declared.Sheet.{Sheet}
 use Rattle.convention.specs.declared.Placement.{Placement}
+use Rattle.convention.specs.declared.Refusal.{Refusal}
 use Rattle.convention.specs.Numbers.{state_limit}
-use Rattle.convention.specs.Sheets.{sheet_kind}
-use Rattle.convention.specs.Promised.{HeadRead, SheetKindRead, SheetRead}
-use Rattle.convention.specs.Rules.{place_fault, rules_place, rules_after}
-use Rattle.convention.specs.Explored.{Entry, entry, number as number_of, meet, met_from, met as met_before}
+use Rattle.convention.specs.Promised.{HeadRead, SheetKindRead}
+use Rattle.convention.specs.Rules.{place_fault, rules_place, rules_after, by_rules}
+use Rattle.convention.specs.Explored.{Entry, met_from, met as met_before}
 use Rattle.convention.specs.Bytes.{written}
 use Rattle.convention.specs.Layout.{transition_length, rows_length}
-use Rattle.convention.specs.Built.{allocation, from_allocation, allocations, built_cell, built_row, built_states}
-use Rattle.building.specs.Deciding.{rows_version, rows_most, DecideAsks}
-use Rattle.building.specs.Keys.{KeyIs}
-use Rattle.building.specs.Links.{Linked}
+use Rattle.convention.specs.Tables.{transition_bytes}
+use Rattle.convention.specs.Built.{allocation, from_allocation, same_allocation, first_allocation, allocations, made, built_cell, built_row, built_states}
+use Rattle.building.specs.Deciding.{rows_version, rows_most}
 use Rattle.building.specs.Writing.{BlocksSoFar}
-use Rattle.building.specs.declared.memory.Met.{Met}
 
--- The states kept are those of the entries of l. That each is kept by its key is said here alone.
-pub record Keeps (sheet : Sheet) (states : List ℕ) (count : ℕ) (l : List (Entry (allocations sheet))) : Type 0 where
-  pub many : count ≡ length l
-  pub keys : (i : ℕ) → i < length l → KeyIs (get_or states i 0) (entry (allocations sheet) l i).node
+-- The states of the entries that the exploration meets.
+abbrev pub nodes : (sheet : Sheet) → List (Entry (allocations sheet)) → List Allocation
+nodes sheet l = map (λ e. e.node) l
 
--- The states kept are those of the entries of l, all of them, or there are more than have room.
-pub record MetHolds (sheet : Sheet) (states links : List ℕ) (met : Met) (l : List (Entry (allocations sheet))) : Type 0 where
-  pub linked : Linked states links met.count
-  pub all : met.over ≡ false → Keeps sheet states met.count l
-  pub more : met.over ≡ true → state_limit < length l
+-- A state's number among those met: its place, their count where it was not met.
+unfoldable pub place_of : List Allocation → Allocation → ℕ
+place_of [] a = 0
+place_of (x ∷ states) a = elim (same_allocation x a) [ true ↦ 0 | false ↦ suc (place_of states a) ]
 
--- State i: whatever entries are kept, the allocation state of entry i.
-pub record StateAt (states : List ℕ) (i : ℕ) (a : Allocation) : Type 0 where
-  pub state : (sheet : Sheet) (count : ℕ) (l : List (Entry (allocations sheet))) → Keeps sheet states count l → i < count
-      → (entry (allocations sheet) l i).node ≡ a
+-- The states met with one more: what is new is appended.
+unfoldable pub met_with : List Allocation → Allocation → List Allocation
+met_with states a = elim (ltb (place_of states a) (length states)) [ true ↦ states | false ↦ states ++ a ∷ [] ]
 
--- An allocation state met: whatever entries were kept, those are kept that the meeting of an entry with this state makes of them, and the number is its own.
-pub record Meets (states links : List ℕ) (met : Met) (a : Allocation) (r : Met) (number : ℕ) (after relinked : List ℕ) : Type 0 where
+-- One of them found: its number.
+pub record Finds (states : List Allocation) (a : Allocation) (number : ℕ) : Type 0 where
+  pub few : number < state_limit
+  pub within : number < length states
+  pub is : number ≡ place_of states a
+
+-- One met, and its number.
+pub record Meets (states : List Allocation) (a : Allocation) (number : ℕ) (after : List Allocation) : Type 0 where
   pub few : number ≤ state_limit
-  pub meets : (sheet : Sheet) (l : List (Entry (allocations sheet))) (e : Entry (allocations sheet)) → e.node ≡ a → MetHolds sheet states links met l
-      → MetHolds sheet after relinked r (meet (allocations sheet) l e)
-  pub numbers : (sheet : Sheet) (l : List (Entry (allocations sheet))) (e : Entry (allocations sheet)) → e.node ≡ a → MetHolds sheet states links met l
-      → r.over ≡ false → number ≡ number_of (allocations sheet) (meet (allocations sheet) l e) e.node
+  pub met : after ≡ met_with states a
+  pub is : number ≡ place_of after a
+
+-- Number 11: these are more than a table may have.
+pub record TooMany (states : List Allocation) (refusal : Refusal) : Type 0 where
+  pub number : refusal ≡ Refusal.States
+  pub more : state_limit < length states
 
 -- A head and a kind that were read.
 pub record LeadAsks (h : Head) (k : SheetKind) : Type 0 where
@@ -53,57 +57,53 @@ pub record LeadIs (h : Head) (k : SheetKind) (a : Allocation) (place : Placement
   pub placed : place ≡ rules_place h.width k (from_allocation a)
   pub after : next ≡ allocation h.modulus (rules_after h.width k (from_allocation a))
 
--- The state after it met, where there is a place; where there is none, whatever entries were kept are kept, and the number says nothing.
-pub record MeetsLed (place : Placement) (next : Allocation) (states links : List ℕ) (met r : Met) (number : ℕ) (after relinked : List ℕ) : Type 0 where
+-- The state after a place met, where there is one; where there is none, no more is met, and the number says nothing.
+pub record MeetsLed (place : Placement) (next : Allocation) (states : List Allocation) (number : ℕ) (after : List Allocation) : Type 0 where
   pub few : number ≤ state_limit
-  pub on : place_fault place ≡ 0 → Meets states links met next r number after relinked
-  pub nowhere : (place_fault place ≡ 0 → ⊥) → (sheet : Sheet) (l : List (Entry (allocations sheet))) → MetHolds sheet states links met l
-      → MetHolds sheet after relinked r l
+  pub on : place_fault place ≡ 0 → Meets states next number after
+  pub nowhere : (place_fault place ≡ 0 → ⊥) → after ≡ states
 
--- One kind gone through at a state, and the transition's place among the rows.
-pub record PassAsks (h : Head) (k : SheetKind) (met : Met) (states links rows : List ℕ) (at : ℕ) : Type 0 where
-  pub lead : LeadAsks h k
-  pub linked : Linked states links met.count
+-- The states met with that to which kind k leads from state a, if it leads on.
+unfoldable pub met_by : Sheet → ℕ → Allocation → List Allocation → List Allocation
+met_by sheet k a states =
+    elim ((allocations sheet).goes a k) [ true ↦ met_with states ((allocations sheet).next a k) | false ↦ states ]
+
+-- The transition of kind k at state a, by the numbers of the states met.
+unfoldable pub cell_by : Sheet → ℕ → Allocation → List Allocation → List ℕ
+cell_by sheet k a states =
+    transition_bytes rows_version
+    (made sheet.head.modulus ((by_rules sheet).place (from_allocation a) k) (place_of states ((allocations sheet).next a k)))
+
+-- One kind of a sheet gone through at a state, and the transition's place among the rows.
+pub record PassAsks (sheet : Sheet) (k : ℕ) (rows : List ℕ) (at : ℕ) : Type 0 where
+  pub below : k < sheet.head.kinds
   pub there : at + transition_length rows_version ≤ length rows
 
--- Where it is kind k of a sheet, and what the kinds before it led to is kept, so is what it leads to, and the transition is that of a table of these states.
-pub record Passes (h : Head) (kind : SheetKind) (a : Allocation) (met : Met) (states links rows : List ℕ) (at : ℕ) (r : Met) (after relinked made : List ℕ) : Type 0 where
-  pub passes : (sheet : Sheet) (k : ℕ) → h ≡ sheet.head → kind ≡ sheet_kind sheet k → (l : List (Entry (allocations sheet))) (i : ℕ)
-      → MetHolds sheet states links met (met_from (allocations sheet) l a i k) → MetHolds sheet after relinked r (met_from (allocations sheet) l a i (k + 1))
-  pub cell : (sheet : Sheet) (k : ℕ) → h ≡ sheet.head → kind ≡ sheet_kind sheet k → (l : List (Entry (allocations sheet))) (i : ℕ)
-      → MetHolds sheet states links met (met_from (allocations sheet) l a i k) → r.over ≡ false
-      → made ≡ written rows at (built_cell rows_version sheet (met_from (allocations sheet) l a i (k + 1)) a k)
+-- What it leads to is met, and its transition is made.
+pub record Passes (sheet : Sheet) (k : ℕ) (a : Allocation) (states : List Allocation) (rows : List ℕ) (at : ℕ) (after : List Allocation) (made : List ℕ) : Type 0 where
+  pub met : after ≡ met_by sheet k a states
+  pub cell : made ≡ written rows at (cell_by sheet k a after)
 
 -- State i gone through: those before it were, and it was met.
-pub record PassKindsAsks (sheet : Sheet) (i : ℕ) (met : Met) (states links rows : List ℕ) : Type 0 where
-  pub read : SheetRead sheet
-  pub holds : MetHolds sheet states links met (met_before (allocations sheet) i)
-  pub whole : met.over ≡ false
-  pub inside : i < met.count
+pub record PassKindsAsks (sheet : Sheet) (i : ℕ) (a : Allocation) (states : List Allocation) (rows : List ℕ) : Type 0 where
+  pub few : length states ≤ state_limit
+  pub holds : states ≡ nodes sheet (met_before (allocations sheet) i)
+  pub inside : i < length states
+  pub is : a ≡ get_or states i first_allocation
   pub room : rows_most ≤ length rows
 
--- What it leads to is kept, and its row is that of the built table.
-pub record PassesKinds (sheet : Sheet) (i : ℕ) (rows : List ℕ) (r : Met) (after relinked made : List ℕ) : Type 0 where
-  pub holds : MetHolds sheet after relinked r (met_before (allocations sheet) (i + 1))
-  pub row : r.over ≡ false → made ≡ written rows (rows_length rows_version sheet.head i) (built_row rows_version sheet (built_states state_limit sheet) i)
+-- What it leads to is met, and its row is that of the built table.
+pub record PassesKinds (sheet : Sheet) (i : ℕ) (rows : List ℕ) (after : List Allocation) (made : List ℕ) : Type 0 where
+  pub holds : after ≡ nodes sheet (met_before (allocations sheet) (i + 1))
+  pub row : made ≡ written rows (rows_length rows_version sheet.head i) (built_row rows_version sheet (built_states state_limit sheet) i)
 
 -- Half way through it, before kind k.
-pub record PassingKinds (sheet : Sheet) (a : Allocation) (i k : ℕ) (rows : List ℕ) (met : Met) (states links made : List ℕ) : Type 0 where
-  pub within : k ≤ sheet.head.kinds
-  pub long : length made ≡ length rows
-  pub holds : MetHolds sheet states links met (met_from (allocations sheet) (met_before (allocations sheet) i) a i k)
-  pub cells : met.over ≡ false
-      → BlocksSoFar (built_cell rows_version sheet (built_states state_limit sheet) a) (rows_length rows_version sheet.head i) k sheet.head.kinds rows made
-
--- The states of a sheet that was read, of which none was met, and room for their rows.
-pub record ExploreAsks (sheet : Sheet) (states links rows : List ℕ) : Type 0 where
-  pub decide : DecideAsks sheet rows
-  pub none : Linked states links 0
+pub record PassingKinds (sheet : Sheet) (a : Allocation) (i k : ℕ) (rows : List ℕ) (states : List Allocation) (made : List ℕ) : Type 0 where
+  pub holds : states ≡ nodes sheet (met_from (allocations sheet) (met_before (allocations sheet) i) a i k)
+  pub cells : BlocksSoFar (built_cell rows_version sheet (built_states state_limit sheet) a) (rows_length rows_version sheet.head i) k sheet.head.kinds rows made
 
 -- Half way through the states, before state i.
-pub record Exploring (sheet : Sheet) (i : ℕ) (rows : List ℕ) (met : Met) (states links made : List ℕ) : Type 0 where
-  pub within : i ≤ state_limit
-  pub long : length made ≡ length rows
-  pub holds : MetHolds sheet states links met (met_before (allocations sheet) i)
-  pub passed : met.over ≡ false → i ≤ met.count
-  pub done : met.over ≡ false → BlocksSoFar (built_row rows_version sheet (built_states state_limit sheet)) 0 i state_limit rows made
+pub record Exploring (sheet : Sheet) (i : ℕ) (rows : List ℕ) (states : List Allocation) (made : List ℕ) : Type 0 where
+  pub holds : states ≡ nodes sheet (met_before (allocations sheet) i)
+  pub passed : i ≤ length states
+  pub done : BlocksSoFar (built_row rows_version sheet (built_states state_limit sheet)) 0 i state_limit rows made

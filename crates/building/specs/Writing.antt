@@ -1,24 +1,17 @@
 -- What the functions that write the parts of a table ask of one another.
-use Rattle.std.specs.Prelude.{ℕ, ◌+◌, ◌-◌, ◌≤◌, ◌<◌, ◌≡◌, true, List, [], ◌∷◌, ◌++◌, length}
+use Rattle.std.specs.Prelude.{ℕ, ◌+◌, ◌-◌, ◌≤◌, ◌≡◌, List, [], ◌∷◌, ◌++◌, length}
 use Rattle.convention.specs.declared.Head.{Head}
 use Rattle.convention.specs.declared.Sheet.{Sheet}
-use Rattle.convention.specs.declared.PlacementParts.{PlacementParts}
 use Rattle.convention.specs.Numbers.{state_limit}
 use Rattle.convention.specs.Bytes.{two_bytes, written, blocks}
 use Rattle.convention.specs.Layout.{length_bytes, states_at, rows_at, transition_length, table_length}
-use Rattle.convention.specs.Fields.{is_modulus, state_bytes}
+use Rattle.convention.specs.Fields.{state_bytes}
 use Rattle.convention.specs.Promised.{SheetRead}
 use Rattle.convention.specs.Built.{built_kind}
 use Rattle.building.specs.Deciding.{rows_version}
 
--- What a placement is made of, to be a transition's: a number that is no offset is a byte.
-pub record FieldAsks (modulus : ℕ) (parts : PlacementParts) : Type 0 where
-  pub right : is_modulus modulus ≡ true
-  pub byte : (parts.form ≡ 2 → ⊥) → parts.number < 256
-
 -- One transition among the rows, from byte `at` on, to a state's number.
-pub record MadeAsks (modulus next : ℕ) (rows : List ℕ) (at : ℕ) : Type 0 where
-  pub right : is_modulus modulus ≡ true
+pub record MadeAsks (next : ℕ) (rows : List ℕ) (at : ℕ) : Type 0 where
   pub few : next ≤ state_limit
   pub there : at + transition_length rows_version ≤ length rows
 

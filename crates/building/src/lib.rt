@@ -3,28 +3,30 @@
 #![tactic(auto)]
 
 mod memory;
+mod modulus;
 mod writer;
 
-ghost use Rattle.std.specs.Prelude.{◌≡◌, ◌+◌, ◌%◌, ◌<◌, length, true, not, leb};
-ghost use Rattle.convention.specs.Numbers.{state_limit, or_else, unless};
-ghost use Rattle.convention.specs.Fields.{is_modulus};
-ghost use Rattle.convention.specs.Promised.{SheetRead};
+ghost use Rattle.std.specs.Prelude.{◌≡◌, ◌+◌, ◌≤◌, length, MatchResult, unwrap_or};
+ghost use Rattle.convention.specs.Numbers.{state_limit};
+ghost use Rattle.convention.specs.Results.{building_answer};
 ghost use Rattle.convention.specs.Bytes.{written};
 ghost use Rattle.convention.specs.Layout.{table_length};
-ghost use Rattle.convention.specs.Built.{allocation as allocationOf, built_version, built_table, built_or_refused, build as builds, build_memory, first_allocation};
+ghost use Rattle.convention.specs.Explored.{met as met_before};
+ghost use Rattle.convention.specs.Rules.{place_fault};
+ghost use Rattle.convention.specs.Built.{allocation as allocationOf, allocations, built_version, built_states, built_table, build as builds, build_memory, first_allocation};
 ghost use Rattle.placing.specs.RulesSteps.{as_rules};
-ghost use Rattle.building.specs.Deciding.{DecideAsks, DecidedIs, WriteAsks, BuildingIs};
-ghost use Rattle.building.specs.Links.{Linked};
-ghost use Rattle.building.specs.Holding.{LeadAsks, LeadIs, MeetsLed, PassAsks, Passes, PassKindsAsks, PassesKinds, ExploreAsks};
+ghost use Rattle.building.specs.Deciding.{rows_most, DecidedIs, ManyStates, WriteAsks, BuildingIs};
+ghost use Rattle.building.specs.Holding.{nodes, met_with, met_by, TooMany, LeadAsks, LeadIs, MeetsLed, PassAsks, Passes, PassKindsAsks, PassesKinds};
 
-use crate::memory::{LINK_COUNT, Meeting, Met};
-use crate::writer::ROWS_VERSION;
+use crate::memory::States;
+use crate::modulus::Modulus;
+use crate::writer::{BuiltTable, ROWS_VERSION};
 use convention::{
-    Allocation, BuildingAnswer, Head, KIND_LIMIT, Offset, Placement, Reading, STATE_LIMIT, Sheet,
-    SheetKind,
+    Allocation, Built, Head, KIND_LIMIT, Offset, Placement, Refusal, STATE_LIMIT, Sheet, SheetKind,
 };
 use fields::layout;
-use placing::RulesAt;
+use fields::layout::Layout;
+use placing::{Rules, RulesAt};
 
 // How many bytes a transition takes among the rows.
 const CELL_BYTES: usize = 4;
@@ -32,25 +34,13 @@ const CELL_BYTES: usize = 4;
 // How many bytes the rows of as many states as a table may have take at most: `rows_most`.
 pub const ROWS_MOST: usize = CELL_BYTES * KIND_LIMIT * STATE_LIMIT;
 
-// An offset's remainder by A.
-fn residue(modulus: u8, offset: Offset) -> u8
-    requires { is_modulus modulus ≡ true }
-    ensures { result ≡ offset.0 % modulus }
-{
-    stepping::remainder(offset.0, modulus as u32) as u8
-}
-
 // The allocation state in which placing by the rules stands.
-fn allocation(modulus: u8, s: RulesAt) -> Allocation
-    requires { is_modulus modulus ≡ true }
-    ensures { result ≡ allocationOf modulus (as_rules s) }
+fn allocation(modulus: Modulus, s: RulesAt) -> Allocation
+    ensures { result ≡ allocationOf modulus.a (as_rules s) }
 {
-    let unavailable = memory::set_of(s.unavailable);
-    let p = s.p;
-    let remainder = residue(modulus, p);
     Allocation {
-        unavailable,
-        remainder,
+        unavailable: memory::set_of(s.unavailable),
+        remainder: modulus.residue(s.p),
     }
 }
 
@@ -62,88 +52,75 @@ struct Led {
 }
 
 // The rules' step from an allocation state, taken at p = its remainder.
-fn lead(head: Head, kind: SheetKind, a: Allocation) -> Led
-    requires { LeadAsks head kind }
-    ensures { LeadIs head kind a result.place result.next }
+fn lead(head: Head, kind: &SheetKind, a: Allocation) -> Led
+    requires { LeadAsks head kind.now }
+    ensures { LeadIs head kind.now a result.place result.next }
 {
-    let flags = a.unavailable;
-    let unavailable = memory::set_number(flags);
-    let from = RulesAt {
-        unavailable,
-        p: Offset(a.remainder as u32),
-    };
+    let unavailable = memory::set_number(a.unavailable);
+    let p = Offset(a.remainder as u32);
+    let from = RulesAt { unavailable, p };
     let stepped = placing::step(head, kind, from);
-    let place = stepped.place;
-    let after = stepped.next;
-    let next = allocation(head.modulus, after);
-    Led { place, next }
-}
-
-// The state after a place met, with those before it. Where there is no place nothing is met, and the number says nothing.
-fn meet_led(
-    place: Placement,
-    next: Allocation,
-    met: Met,
-    states: &mut [u32],
-    links: &mut [u16],
-) -> Meeting
-    requires { Linked states.old links.old met.count }
-    ensures { MeetsLed place next states.old links.old met result.met result.number states.new links.new }
-{
-    if stepping::place_fault(place) == 0 {
-        return memory::meet_state(states, links, met, next);
+    let modulus = Modulus { a: head.modulus };
+    let next = allocation(modulus, stepped.next);
+    Led {
+        place: stepped.place,
+        next,
     }
-    Meeting { met, number: 0 }
 }
 
-// A kind gone through at a state: what it leads to is met, where it leads on, and its transition stands among the rows, from
+// The state after a place met, and its number. Where there is no place nothing is met.
+fn meet_led(led: Led, states: &mut States) -> Result<Option<u16>, Refusal>
+    ensures { MatchResult result (λ met. MeetsLed led.place led.next states.old (unwrap_or met 0) states.new) (λ refusal. (place_fault led.place ≡ 0) × TooMany (met_with states.old led.next) refusal) }
+{
+    match led.place {
+        Placement::Nowhere => Ok(None),
+        Placement::Registers(_, _) | Placement::Stack(_, _) => states.meet(led.next).map(Some),
+    }
+}
+
+// (The states and the rows are lent side by side here and in `pass_kinds`; `decide` makes the one and is lent the other.)
+// Kind k gone through at a state: what it leads to is met, where it leads on, and its transition stands among the rows, from
 // byte `at` on.
 fn pass(
-    head: Head,
-    kind: SheetKind,
+    rules: &Rules,
+    k: u8,
     a: Allocation,
-    met: Met,
-    states: &mut [u32],
-    links: &mut [u16],
+    states: &mut States,
     rows: &mut [u8],
     at: usize,
-) -> Met
-    requires { PassAsks head kind met states.old links.old rows.old at }
-    ensures { Passes head kind a met states.old links.old rows.old at result states.new links.new rows.new }
+) -> Result<(), Refusal>
+    requires { PassAsks rules.now.sheet k rows.old at }
+    ensures { MatchResult result (λ _. Passes rules.now.sheet k a states.old rows.old at states.new rows.new) (λ refusal. TooMany (met_by rules.now.sheet k a states.old) refusal) }
 {
-    let led = lead(head, kind, a);
-    let place = led.place;
-    let next = led.next;
-    let more = meet_led(place, next, met, states, links);
-    writer::write_made(head.modulus, place, more.number, rows, at);
-    more.met
+    let head = rules.sheet.head;
+    let led = lead(head, &rules.sheet.kinds[k as usize], a);
+    let met = meet_led(led, states)?;
+    let modulus = Modulus { a: head.modulus };
+    writer::write_made(modulus, led.place, met.unwrap_or(0), rows, at);
+    Ok(())
 }
 
-// State i gone through, in the order of the kinds, and its row made.
+// State i, which is `a`, gone through, in the order of the kinds, and its row made.
 fn pass_kinds(
-    sheet: Sheet,
+    rules: &Rules,
     i: u16,
-    met: Met,
-    states: &mut [u32],
-    links: &mut [u16],
+    a: Allocation,
+    states: &mut States,
     rows: &mut [u8],
-) -> Met
-    requires { PassKindsAsks sheet i met states.old links.old rows.old }
-    ensures { PassesKinds sheet i rows.old result states.new links.new rows.new }
+) -> Result<(), Refusal>
+    requires { PassKindsAsks rules.now.sheet i a states.old rows.old }
+    ensures { MatchResult result (λ _. PassesKinds rules.now.sheet i rows.old states.new rows.new) (λ refusal. TooMany (nodes rules.now.sheet (met_before (allocations rules.now.sheet) (i + 1))) refusal) }
 {
-    let from = memory::state_at(states, i);
-    let head = sheet.head;
-    let kinds = head.kinds;
-    let row = layout::rows_length(ROWS_VERSION, head, i);
-    let mut more = met;
-    let mut k: u8 = 0;
-    while k < kinds {
-        let kind = sheet.kinds[k as usize];
-        let at = layout::in_row(ROWS_VERSION, row, k);
-        more = pass(head, kind, from, more, states, links, rows, at);
-        k += 1;
+    let layout = Layout {
+        version: ROWS_VERSION,
+        head: rules.sheet.head,
+    };
+    let row = layout.rows_length(i);
+    for k in 0..layout.head.kinds {
+        let at = layout::in_row(layout.version, row, k);
+        pass(rules, k, a, states, rows, at)?;
     }
-    more
+    Ok(())
 }
 
 // State 0: 'the empty set with 0'.
@@ -156,117 +133,60 @@ fn first_state() -> Allocation
     }
 }
 
-// The states that lists of kinds reach, in the order of meeting: each that was met is gone through, by its number, and its row
-// made.
-fn explore(sheet: Sheet, states: &mut [u32], links: &mut [u16], rows: &mut [u8]) -> Met
-    requires { ExploreAsks sheet states.old links.old rows.old }
-    ensures { DecidedIs sheet result.count result.over rows.new }
+// Decides the table of a sheet that was read: how many states it has, and its rows, which are then the first bytes of `rows`. The
+// states are those that lists of kinds reach, in the order of meeting: each that was met is gone through, by its number. Where there
+// are more than a table may have it refuses the sheet, and the rows say nothing.
+pub fn decide(rules: &Rules, rows: &mut [u8]) -> Result<u16, Refusal>
+    requires { rows_most ≤ length rows.old }
+    ensures { MatchResult result (λ states. DecidedIs rules.now.sheet states rows.new) (λ refusal. ManyStates rules.now.sheet refusal) }
 {
-    let none = Met {
-        count: 0,
-        over: false,
-    };
-    let first = memory::meet_state(states, links, none, first_state());
-    let mut met = first.met;
-    let mut i: u16 = 0;
-    while i < met.count {
-        if met.over {
-            return met;
-        }
-        met = pass_kinds(sheet, i, met, states, links, rows);
-        i += 1;
+    let mut states = States::new();
+    states.meet(first_state())?;
+    for i in 0..STATE_LIMIT as u16 {
+        let Some(a) = states.state(i) else {
+            break;
+        };
+        pass_kinds(rules, i, a, &mut states, rows)?;
     }
-    met
-}
-
-// What was decided of a sheet's table: N, and whether more states are reached than a table may have. Once it is `over`, N and
-// the rows say nothing.
-#[derive(Clone, Copy)]
-pub struct DecidedTable {
-    pub states: u16,
-    pub over: bool,
-}
-
-// Decides the table of a sheet that was read: how many states it has, and its rows, which are then the first bytes of `rows`.
-pub fn decide(sheet: Sheet, rows: &mut [u8]) -> DecidedTable
-    requires { DecideAsks sheet rows.old }
-    ensures { DecidedIs sheet result.states result.over rows.new }
-{
-    let mut states = [0u32; STATE_LIMIT];
-    let mut links = [0u16; LINK_COUNT];
-    let met = explore(sheet, &mut states, &mut links, rows);
-    DecidedTable {
-        states: met.count,
-        over: met.over,
-    }
+    Ok(states.count())
 }
 
 // How long a sheet's table of so many states is.
 pub fn table_length(sheet: Sheet, states: u16) -> usize
     ensures { result ≡ table_length (built_version sheet states) sheet.head states }
 {
-    layout::row_at(writer::built_version(sheet, states), sheet.head, states)
+    BuiltTable::new(sheet, states).length()
 }
 
 // Writes the table that was decided, of so many states and with these rows, into the first bytes of `out`. The bytes behind it
 // stay.
-pub fn write(sheet: Sheet, states: u16, rows: &[u8], out: &mut [u8])
-    requires { WriteAsks sheet states rows.now out.old }
-    ensures { out.new ≡ written out.old 0 (built_table state_limit sheet) }
+pub fn write(rules: &Rules, states: u16, rows: &[u8], out: &mut [u8])
+    requires { WriteAsks rules.now.sheet states rows.now out.old }
+    ensures { out.new ≡ written out.old 0 (built_table state_limit rules.now.sheet) }
 {
-    let version = writer::built_version(sheet, states);
-    let head = sheet.head;
-    writer::write_front(version, sheet, states, out);
-    let len = layout::rows_length(ROWS_VERSION, head, states);
-    writer::copy_rows(rows, len, out, layout::rows_at(version, head));
+    let table = BuiltTable::new(rules.sheet, states);
+    table.write_front(out);
+    table.write_rows(rows, out);
 }
 
-// 'Building: 11, 12', of whether there are too many states, and of the table's length and its room.
-fn build_no(over: bool, len: usize, room: usize) -> u8
-    ensures { result ≡ or_else (unless (not over) 11) (unless (leb len room) 12) }
-{
-    let many = fields::unless(!over, 11);
-    let narrow = fields::unless(len <= room, 12);
-    fields::or_else(many, narrow)
-}
-
-// What a number answers: N and the table's length where it is 0, else the refusal.
-fn build_answer(number: u8, states: u16, len: usize) -> BuildingAnswer
-    ensures { result ≡ built_or_refused number states len }
-{
-    if number != 0 {
-        return BuildingAnswer::Refused(number);
-    }
-    BuildingAnswer::Built(states, len)
-}
-
-// Builds the table of a sheet that was read. It is written only where no number is given.
-fn build_sheet(sheet: Sheet, out: &mut [u8]) -> BuildingAnswer
-    requires { SheetRead sheet }
-    ensures { BuildingIs sheet out.old result out.new }
+// Builds the table of a sheet that was read. It is written only where there are not too many states and it has room.
+fn build_in(rules: &Rules, out: &mut [u8]) -> Result<Built, Refusal>
+    ensures { BuildingIs rules.now.sheet out.old result out.new }
 {
     let mut rows = [0u8; ROWS_MOST];
-    let decided = decide(sheet, &mut rows);
-    let len = table_length(sheet, decided.states);
-    let number = build_no(decided.over, len, out.len());
-    let answer = build_answer(number, decided.states, len);
-    if number == 0 {
-        write(sheet, decided.states, &rows, out);
-    }
-    answer
+    let states = decide(rules, &mut rows)?;
+    let length = table_length(rules.sheet, states);
+    fields::check(length <= out.len(), Refusal::Room)?;
+    write(rules, states, &rows, out);
+    Ok(Built { states, length })
 }
 
 // Builds a sheet's table: N and the table's length, with the table in the first bytes of `out`, or a refusal that writes
 // nothing. The contract gives the answer and the memory outright, so any two answers that it allows coincide.
-pub fn build(sheet: &[u8], out: &mut [u8]) -> BuildingAnswer
-    ensures value { result ≡ builds state_limit sheet.now (length out.old) }
+pub fn build(sheet: &[u8], out: &mut [u8]) -> Result<Built, Refusal>
+    ensures value { building_answer result ≡ builds state_limit sheet.now (length out.old) }
     ensures out_after { out.new ≡ build_memory state_limit sheet.now out.old }
 {
-    let answer = sheet::read_sheet(sheet);
-    let reading = answer.reading;
-    let read = answer.sheet;
-    match reading {
-        Reading::Read => build_sheet(read, out),
-        Reading::Refused(number) => BuildingAnswer::Refused(number),
-    }
+    let rules = Rules::read(sheet)?;
+    build_in(&rules, out)
 }

@@ -5,8 +5,8 @@ use mathlib.Core.List.{List, [], ◌∷◌, ◌++◌, map}
 use native.Mathlib.Omega.{arith}
 use lib.ListN.{length}
 use lib.Seq.{take-append_seam}
-use Rattle.convention.specs.declared.JudgingAnswer.{JudgingAnswer}
-use Rattle.convention.specs.declared.JudgingAnswer.TheVariants.{Clean, Fault}
+use Rattle.convention.specs.Answers.{JudgingAnswer}
+use Rattle.convention.specs.Answers.{Clean, Fault}
 use Rattle.convention.specs.Numbers.{state_limit, refusal}
 use Rattle.convention.specs.Tables.{table_no}
 use Rattle.convention.specs.Judged.{judge_no, Judges, verdict_by_trying}

@@ -1,8 +1,8 @@
 -- Document 01, 'Examples to settle the reading', those outside P1 to P12 that compute at once: what building gives, the states of S, and lines; and the example
 -- of 'Placing by a table'. What stands here is 01's text but for three offsets; proofs/Computed.antt and, for the lines, proofs/Printed.antt hold the definitions to it.
 use Rattle.std.specs.Prelude.{ℕ, List, [], ◌∷◌, ◌++◌, map, true, false, drop, replicate}
-use Rattle.convention.specs.declared.BuildingAnswer.{BuildingAnswer}
-use Rattle.convention.specs.declared.BuildingAnswer.TheVariants.{Built}
+use Rattle.convention.specs.Answers.{BuildingAnswer}
+use Rattle.convention.specs.Answers.{Built}
 use Rattle.convention.specs.declared.Allocation.{Allocation}
 use Rattle.convention.specs.Sheets.{sheet_of}
 use Rattle.convention.specs.Explored.{Automaton, Entry}

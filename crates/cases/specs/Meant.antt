@@ -1,6 +1,6 @@
 -- The cases that judge, P8 to P12 among them, of the judge's contract itself: what is to hold of whatever the judge answers, and not of a verdict found by trying.
 use Rattle.std.specs.Prelude.{ℕ, ◌≤◌, ◌≡◌, List, [], ◌∷◌, length, take}
-use Rattle.convention.specs.declared.JudgingAnswer.{JudgingAnswer}
+use Rattle.convention.specs.Answers.{JudgingAnswer}
 use Rattle.convention.specs.Numbers.{state_limit, judging_says}
 use Rattle.convention.specs.Judged.{judge_room, Judges}
 use Rattle.cases.specs.Cases.{Given, by_rules_in, by_table_in, judge, ask_row, Outcome, Case}

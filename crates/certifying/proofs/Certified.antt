@@ -27,7 +27,7 @@ use Rattle.stepping.specs.Sets.{set_of, Among}
 use Rattle.stepping.proofs.Runs.{mark_among}
 use Rattle.stepping.proofs.Sets.{set_none, set_long}
 use Rattle.walking.specs.TableSteps.{given_after}
-use Rattle.certifying.specs.declared.Checks.{Checks}
+use Rattle.certifying.specs.declared.checks.Checks.{Checks}
 use Rattle.certifying.specs.Certified.{is_reached, own_fault, Gives, TransitionHolds, Certified, NoListFaulty, by_itself, NeverTwice, CertificateIs}
 
 -- A test that did not fail.
@@ -128,11 +128,11 @@ unfolding set_of
 every_register = refl
 
 -- Sets that are not closed say nothing,
-pub certificate_open : (table : Table) (t : List ℕ) → CertificateIs table t false 65535
-certificate_open table t = record {
+pub certificate_open : (table : Table) (t : List ℕ) (all : ℕ) → all ≡ 65535 → CertificateIs table t false all
+certificate_open table t all ea = rw ea (record {
   none = λ e. absurd (false≢true e);
   but = record { once = λ r h e. absurd (true≢false (sym (rw every_register (all_taken 16 r h)) ∙ e)) };
-}
+})
 
 -- and those that are say what was found.
 pub certificate_closed : (table : Table) (t sets : List ℕ) (c : Checks) → TableRead state_limit table t → Certified table t sets c → not c.closed ≡ false
@@ -145,3 +145,18 @@ certificate_closed table t sets c read cert n =
           no_list_faulty table t sets c read cert closed clean (eqb-true c.twice 0 none);
       but = record { once = λ r _ e. never_twice table t sets c read cert closed r e };
     }
+
+-- What is answered of them: the table is clean where all are and no register was found,
+pub certificate_clean : (table : Table) (t sets : List ℕ) (c : Checks) → TableRead state_limit table t → Certified table t sets c → not c.closed ≡ false
+    → c.clean && eqb c.twice 0 ≡ true → CertificateIs table t true 0
+certificate_clean table t sets c read cert n e =
+    let (_, none) = (and-eq-true_iff c.clean _).0 e in
+    rw (e, eqb-true c.twice 0 none) at (certificate_closed table t sets c read cert n)
+
+-- and otherwise the registers that were found.
+pub certificate_found : (table : Table) (t sets : List ℕ) (c : Checks) → TableRead state_limit table t → Certified table t sets c → not c.closed ≡ false
+    → CertificateIs table t false c.twice
+certificate_found table t sets c read cert n = record {
+  none = λ e. absurd (false≢true e);
+  but = (certificate_closed table t sets c read cert n).but;
+}

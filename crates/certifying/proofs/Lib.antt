@@ -1,3 +1,2 @@
 pub mod Certified
 pub mod Checking
-pub mod Growing

@@ -1,5 +1,5 @@
 -- The sets of a table, for each state the registers that may be given there and a mark that it is reached; what the check of them finds; and what a certificate says of lists.
-use Rattle.std.specs.Prelude.{ℕ, ◌+◌, ◌≤◌, ◌<◌, ◌≡◌, Bool, true, false, List, eqb, get_or}
+use Rattle.std.specs.Prelude.{ℕ, ◌+◌, ◌≤◌, ◌<◌, ◌≡◌, Bool, true, false, Option, Some, None, List, eqb, get_or}
 use Rattle.std.specs.Int.Bits.{bit_and}
 use Rattle.convention.specs.declared.Head.{Head}
 use Rattle.convention.specs.declared.Shape.{Shape}
@@ -12,7 +12,7 @@ use Rattle.convention.specs.Lists.{Steps, fault_from, state_from, KindsBelow}
 use Rattle.convention.specs.Walked.{table_fault, by_table, walk_begin}
 use Rattle.stepping.specs.Sets.{set_of, Among}
 use Rattle.walking.specs.TableSteps.{given_after}
-use Rattle.certifying.specs.declared.Checks.{Checks}
+use Rattle.certifying.specs.declared.checks.Checks.{Checks}
 
 -- The mark that a state is reached, above the sixteen registers of its set, and whether a set has it.
 abbrev pub reached_mark : ℕ
@@ -79,3 +79,12 @@ pub record OnceBut (table : Table) (t : List ℕ) (twice : ℕ) : Type 0 where
 pub record CertificateIs (table : Table) (t : List ℕ) (clean : Bool) (twice : ℕ) : Type 0 where
   pub none : clean ≡ true → NoListFaulty table t
   pub but : OnceBut table t twice
+
+-- What `certify` answers, as a certificate: `None` is a clean table, of which no register is given twice; `Some` is the set of those that may be.
+abbrev pub is_clean : Option ℕ → Bool
+is_clean None = true
+is_clean (Some twice) = false
+
+abbrev pub twice_of : Option ℕ → ℕ
+twice_of None = 0
+twice_of (Some twice) = twice

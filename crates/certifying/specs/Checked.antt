@@ -1,24 +1,10 @@
 -- What the functions that check a certificate ask of one another.
-use Rattle.std.specs.Prelude.{ℕ, ◌≤◌, ◌<◌, ◌≡◌, true, List, length, get_or}
-use Rattle.convention.specs.declared.Head.{Head}
-use Rattle.convention.specs.declared.Shape.{Shape}
+use Rattle.std.specs.Prelude.{ℕ, ◌<◌, ◌≡◌, true, List, get_or}
 use Rattle.convention.specs.declared.Table.{Table}
-use Rattle.convention.specs.declared.Transition.{Transition}
-use Rattle.convention.specs.Numbers.{state_limit}
-use Rattle.convention.specs.Promised.{TableRead}
 use Rattle.stepping.specs.Sets.{set_of, Among}
-use Rattle.certifying.specs.declared.Checks.{Checks}
+use Rattle.walking.specs.declared.step.Step.{Step}
+use Rattle.certifying.specs.declared.checks.Checks.{Checks}
 use Rattle.certifying.specs.Certified.{is_reached, TransitionHolds, RowHolds, StateHolds}
-
--- A table that was read, and as many sets as a table may have states.
-pub record SetsAsk (table : Table) (t sets : List ℕ) : Type 0 where
-  pub read : TableRead state_limit table t
-  pub long : length sets ≡ state_limit
-
--- The same, and a state of the table.
-pub record StateAsks (table : Table) (t sets : List ℕ) (state : ℕ) : Type 0 where
-  pub asks : SetsAsk table t sets
-  pub inside : state < table.states
 
 -- What was found stays found: each test that passes afterwards passed before, and each register is still there.
 pub record Keeps (before after : Checks) : Type 0 where
@@ -27,9 +13,9 @@ pub record Keeps (before after : Checks) : Type 0 where
   pub twice : Among (set_of 16 before.twice) (set_of 16 after.twice)
 
 -- One more transition, the kinds below n at a state with the set `here`, or all kinds of a state, where so much was found before and so much is afterwards.
-pub record TransitionIs (h : Head) (shape : Shape) (x : Transition) (here next : ℕ) (before after : Checks) : Type 0 where
+pub record TransitionIs (step : Step) (here next : ℕ) (before after : Checks) : Type 0 where
   pub keeps : Keeps before after
-  pub holds : TransitionHolds h shape x here next after
+  pub holds : TransitionHolds step.head step.shape step.x here next after
 
 pub record RowIs (table : Table) (t sets : List ℕ) (state here n : ℕ) (before after : Checks) : Type 0 where
   pub keeps : Keeps before after
@@ -41,6 +27,5 @@ pub record StateIs (table : Table) (t sets : List ℕ) (state : ℕ) (before aft
 
 -- Half way: the states below n hold.
 pub record StatesHold (table : Table) (t sets : List ℕ) (n : ℕ) (c : Checks) : Type 0 where
-  pub within : n ≤ table.states
   pub start : c.closed ≡ true → is_reached (get_or sets 0 0) ≡ true
   pub each : (state : ℕ) → state < n → StateHolds table t sets state c

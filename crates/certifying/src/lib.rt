@@ -4,40 +4,23 @@
 // proofs/Certified.antt for what that says of lists.
 #![tactic(auto)]
 
+mod checks;
 mod filling;
 
 ghost use Rattle.std.specs.Prelude.{◌≡◌};
-ghost use Rattle.convention.specs.Numbers.{state_limit};
-ghost use Rattle.convention.specs.Promised.{TableRead};
-ghost use Rattle.walking.specs.TableSteps.{FaultAsks};
-ghost use Rattle.certifying.specs.Certified.{is_reached, Certified, CertificateIs};
-ghost use Rattle.certifying.specs.Checked.{SetsAsk, StateAsks, TransitionIs, RowIs, StateIs};
+ghost use Rattle.certifying.specs.Certified.{is_reached, is_clean, twice_of, Certified, CertificateIs};
 
-use convention::{Head, STATE_LIMIT, Shape, Table, Transition};
+use crate::checks::Checks;
+use crate::filling::Filling;
+use convention::STATE_LIMIT;
+use table::ReadTable;
 
-// The mark that a state is reached, above the sixteen registers of its set: `reached_mark`.
+// The mark that a state is reached, above the sixteen registers of its set: `reached_mark`. It is a bit of the set and no flag or
+// `Option` beside it, as specs/Certified.antt has it (`is_reached`).
 pub(crate) const REACHED: u32 = 0x1_0000;
 
 // The set of all sixteen registers.
 const EACH_REGISTER: u32 = 0xFFFF;
-
-// What the transitions that were checked say: whether the sets are closed, whether none has a fault by itself, and the
-// registers that one gives at a state whose set has them.
-#[derive(Clone, Copy)]
-struct Checks {
-    closed: bool,
-    clean: bool,
-    twice: u32,
-}
-
-// What is known of a table: where it is clean no list of its kinds has a fault, and a register that is not in `twice`, a bit
-// for each of the sixteen, is given twice by no list. Nothing is said of a table that is not clean, nor of a register that is
-// in `twice`.
-#[derive(Clone, Copy)]
-pub struct Certificate {
-    pub clean: bool,
-    pub twice: u32,
-}
 
 // Whether the state of a set is reached.
 fn is_reached(set: u32) -> bool
@@ -46,99 +29,39 @@ fn is_reached(set: u32) -> bool
     set & REACHED == REACHED
 }
 
-// Checks a transition for a kind of this shape, from a state with the set `here` to one with the set `next`. Where it has no
-// fault by itself, the next state must be reached, and its set have what is given after it where all of `here` was before.
-fn check_transition(
-    head: Head,
-    shape: Shape,
-    x: Transition,
-    here: u32,
-    next: u32,
-    checks: Checks,
-) -> Checks
-    requires { FaultAsks head shape x }
-    ensures { TransitionIs head shape x here next checks result }
-{
-    let own = walking::step_fault(head, shape, x, 0);
-    let gives = walking::give(x, 0);
-    let after = walking::give(x, here);
-    let reached = is_reached(next);
-    Checks {
-        closed: checks.closed & ((own != 0) | (reached & (next & after == after))),
-        clean: checks.clean & (own == 0),
-        twice: checks.twice | (here & gives),
-    }
-}
-
-// Checks the transitions of a state with the set `here`. The kind is taken here and not in a function of its own, which would
-// copy the table's kinds for each transition.
-fn check_row(table: Table, t: &[u8], sets: &[u32], state: u16, here: u32, checks: Checks) -> Checks
-    requires { StateAsks table t.now sets.now state }
-    ensures { RowIs table t.now sets.now state here table.head.kinds checks result }
-{
-    let head = table.head;
-    let kinds = head.kinds;
-    let mut found = checks;
-    let mut k: u8 = 0;
-    while k < kinds {
-        let x = table::transition_of(table.version, head, t, state, k);
-        let shape = table.kinds[k as usize];
-        let next = sets[x.next as usize];
-        found = check_transition(head, shape, x, here, next, found);
-        k += 1;
-    }
-    found
-}
-
-// Checks the transitions of a state, where it is reached.
-fn check_state(table: Table, t: &[u8], sets: &[u32], state: u16, checks: Checks) -> Checks
-    requires { StateAsks table t.now sets.now state }
-    ensures { StateIs table t.now sets.now state checks result }
-{
-    let here = sets[state as usize];
-    if is_reached(here) {
-        return check_row(table, t, sets, state, here, checks);
-    }
-    checks
-}
-
 // Checks the sets of a table: state 0 must be reached.
-fn check_states(table: Table, t: &[u8], sets: &[u32]) -> Checks
-    requires { SetsAsk table t.now sets.now }
-    ensures { Certified table t.now sets.now result }
+#[tactic(auto, using(crate::proofs::Checking::states_on))]
+fn check_states(table: &ReadTable<'_>, sets: &[u32; STATE_LIMIT]) -> Checks
+    ensures { Certified table.now.table table.now.bytes.now sets.now result }
 {
-    let states = table.states;
-    let first = sets[0];
-    let closed = is_reached(first);
     let mut found = Checks {
-        closed,
+        closed: is_reached(sets[0]),
         clean: true,
         twice: 0,
     };
-    let mut state: u16 = 0;
-    while state < states {
-        found = check_state(table, t, sets, state, found);
-        state += 1;
+    for state in 0..table.table.states {
+        found.check_state(table, sets, state);
     }
     found
 }
 
-// The certificate of a table that was read from t.
-pub fn certify(table: Table, t: &[u8]) -> Certificate
-    requires { TableRead state_limit table t.now }
-    ensures { CertificateIs table t.now result.clean result.twice }
+// What is known of a table. `None` says that it is clean: no list of its kinds has a fault, and none gives a register twice.
+// Otherwise it is a set of registers, a bit for each of the sixteen, and a register that is not in it is given twice by no list.
+// Nothing is said then of a register that is in it, nor whether the table is clean.
+// Out of line, so that its sets and the search's entries are not on the stack at once.
+#[inline(never)]
+#[tactic(auto, using(crate::proofs::Certified::certificate_open, crate::proofs::Certified::certificate_clean, crate::proofs::Certified::certificate_found))]
+pub fn certify(table: &ReadTable<'_>) -> Option<u32>
+    ensures { CertificateIs table.now.table table.now.bytes.now (is_clean result) (twice_of result) }
 {
-    let mut sets = [0u32; STATE_LIMIT];
-    filling::fill(table, t, &mut sets);
-    let found = check_states(table, t, &sets);
+    let mut filling = Filling::new();
+    filling.fill(table);
+    let found = check_states(table, &filling.sets);
     if !found.closed {
-        return Certificate {
-            clean: false,
-            twice: EACH_REGISTER,
-        };
+        return Some(EACH_REGISTER);
     }
-    Certificate {
-        clean: found.clean & (found.twice == 0),
-        twice: found.twice,
+    if found.clean & (found.twice == 0) {
+        return None;
     }
+    Some(found.twice)
 }

@@ -1,6 +1,7 @@
 pub mod Offsets
 pub mod Bytes
 pub mod Numbers
+pub mod Results
 pub mod InTurn
 pub mod Positions
 pub mod Fields

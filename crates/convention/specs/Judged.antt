@@ -1,7 +1,7 @@
 -- Document 01, demand 3 and 'Placing by a table': faulty lists and the verdict.
 use Rattle.std.specs.Prelude.{ℕ, zero, suc, ◌*◌, ◌<◌, ◌≤◌, ◌≡◌, List, [], ◌∷◌, ◌++◌, map, leb, length, take, drop}
-use Rattle.convention.specs.declared.JudgingAnswer.{JudgingAnswer}
-use Rattle.convention.specs.declared.JudgingAnswer.TheVariants.{Clean, Fault}
+use Rattle.convention.specs.Answers.{JudgingAnswer}
+use Rattle.convention.specs.Answers.{Clean, Fault}
 use Rattle.convention.specs.Numbers.{or_else, unless}
 use Rattle.convention.specs.Tables.{table_no, table_of}
 use Rattle.convention.specs.Lists.{Steps, fault_from, KindsBelow}

@@ -1,3 +1,4 @@
+pub mod Answers
 pub mod Numbers
 pub mod Bytes
 pub mod Layout
@@ -5,6 +6,7 @@ pub mod Fields
 pub mod Shapes
 pub mod Sheets
 pub mod Tables
+pub mod Results
 pub mod Offsets
 pub mod Lists
 pub mod Rules

@@ -4,8 +4,8 @@ use Rattle.convention.specs.declared.Offset.{Offset}
 use Rattle.convention.specs.declared.Placement.{Placement}
 use Rattle.convention.specs.declared.Placement.TheVariants.{Registers, Stack, Nowhere}
 use Rattle.convention.specs.declared.PlacementParts.{PlacementParts}
-use Rattle.convention.specs.declared.PlacingAnswer.{PlacingAnswer}
-use Rattle.convention.specs.declared.PlacingAnswer.TheVariants.{Placed, Unknown, Faulty}
+use Rattle.convention.specs.Answers.{PlacingAnswer}
+use Rattle.convention.specs.Answers.{Placed, Unknown, Faulty}
 use Rattle.convention.specs.Numbers.{or_else, unless}
 use Rattle.convention.specs.Bytes.{four_bytes, written}
 

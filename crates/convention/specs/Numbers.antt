@@ -1,12 +1,12 @@
 -- Document 01, 'Answer numbers': the order in which numbers are found, the limits, and the number and values of each answer.
 use Rattle.std.specs.Prelude.{ℕ, zero, suc, Bool, true, false}
-use Rattle.convention.specs.declared.Reading.{Reading}
-use Rattle.convention.specs.declared.PlacingAnswer.{PlacingAnswer}
-use Rattle.convention.specs.declared.PlacingAnswer.TheVariants.{Placed, Unknown, Faulty}
-use Rattle.convention.specs.declared.BuildingAnswer.{BuildingAnswer}
-use Rattle.convention.specs.declared.BuildingAnswer.TheVariants.{Built}
-use Rattle.convention.specs.declared.JudgingAnswer.{JudgingAnswer}
-use Rattle.convention.specs.declared.JudgingAnswer.TheVariants.{Clean, Fault}
+use Rattle.convention.specs.Answers.{Reading}
+use Rattle.convention.specs.Answers.{PlacingAnswer}
+use Rattle.convention.specs.Answers.{Placed, Unknown, Faulty}
+use Rattle.convention.specs.Answers.{BuildingAnswer}
+use Rattle.convention.specs.Answers.{Built}
+use Rattle.convention.specs.Answers.{JudgingAnswer}
+use Rattle.convention.specs.Answers.{Clean, Fault}
 
 -- Number 11: the most allocation states, and N's bound. Definitions and laws take a limit as an argument; the calls give it this one.
 abbrev pub state_limit : ℕ

@@ -1,9 +1,9 @@
 -- Document 01, 'The program': the line that it prints.
 use Rattle.std.specs.Prelude.{ℕ, zero, suc, ◌+◌, ◌/◌, ◌%◌, ◌≤◌, ◌<◌, ◌≡◌, true, false, List, [], ◌∷◌, ◌++◌, ltb, length, take}
-use Rattle.convention.specs.declared.BuildingAnswer.{BuildingAnswer}
-use Rattle.convention.specs.declared.BuildingAnswer.TheVariants.{Built}
-use Rattle.convention.specs.declared.JudgingAnswer.{JudgingAnswer}
-use Rattle.convention.specs.declared.JudgingAnswer.TheVariants.{Clean, Fault}
+use Rattle.convention.specs.Answers.{BuildingAnswer}
+use Rattle.convention.specs.Answers.{Built}
+use Rattle.convention.specs.Answers.{JudgingAnswer}
+use Rattle.convention.specs.Answers.{Clean, Fault}
 use Rattle.convention.specs.Numbers.{state_limit, judging_says}
 use Rattle.convention.specs.Sheets.{sheet_of}
 use Rattle.convention.specs.Built.{built_table, build}

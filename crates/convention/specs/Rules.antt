@@ -7,7 +7,7 @@ use Rattle.convention.specs.declared.Placement.TheVariants.{Registers, Stack, No
 use Rattle.convention.specs.declared.SheetKind.{SheetKind}
 use Rattle.convention.specs.declared.Sheet.{Sheet}
 use Rattle.convention.specs.declared.ByRules.{ByRules}
-use Rattle.convention.specs.declared.PlacingAnswer.{PlacingAnswer}
+use Rattle.convention.specs.Answers.{PlacingAnswer}
 use Rattle.convention.specs.Numbers.{unless}
 use Rattle.convention.specs.Shapes.{registers_needed, stack_bytes}
 use Rattle.convention.specs.Sheets.{may_use_stack, is_closing, sheet_kind, sheet_no, sheet_of}

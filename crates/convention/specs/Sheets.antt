@@ -4,7 +4,7 @@ use Rattle.convention.specs.declared.Head.{Head}
 use Rattle.convention.specs.declared.Shape.{Shape}
 use Rattle.convention.specs.declared.SheetKind.{SheetKind}
 use Rattle.convention.specs.declared.Sheet.{Sheet}
-use Rattle.convention.specs.declared.SheetAnswer.{SheetAnswer}
+use Rattle.convention.specs.Answers.{SheetAnswer}
 use Rattle.convention.specs.Numbers.{or_else, reading}
 use Rattle.convention.specs.Layout.{kinds_at, flags_at, tries_at, starts_at}
 use Rattle.convention.specs.Fields.{field_no, version_of, head_of, opening_no, shape_no, shape_of, left_over_no}

@@ -3,7 +3,7 @@ use Rattle.std.specs.Prelude.{ℕ, zero, suc, ◌+◌, ◌-◌, ◌*◌, Bool, �
 use Rattle.convention.specs.declared.Head.{Head}
 use Rattle.convention.specs.declared.Shape.{Shape}
 use Rattle.convention.specs.declared.Table.{Table}
-use Rattle.convention.specs.declared.TableAnswer.{TableAnswer}
+use Rattle.convention.specs.Answers.{TableAnswer}
 use Rattle.convention.specs.declared.Transition.{Transition}
 use Rattle.convention.specs.Numbers.{or_else, unless, reading}
 use Rattle.convention.specs.Layout.{kinds_at, shape_length, states_at, state_length, rows_at, form_at, a_at, b_at, next_at}

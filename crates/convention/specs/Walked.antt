@@ -7,7 +7,7 @@ use Rattle.convention.specs.declared.Shape.{Shape}
 use Rattle.convention.specs.declared.Table.{Table}
 use Rattle.convention.specs.declared.Transition.{Transition}
 use Rattle.convention.specs.declared.ByTable.{ByTable}
-use Rattle.convention.specs.declared.PlacingAnswer.{PlacingAnswer}
+use Rattle.convention.specs.Answers.{PlacingAnswer}
 use Rattle.convention.specs.Numbers.{or_else, unless}
 use Rattle.convention.specs.Offsets.{least_offset}
 use Rattle.convention.specs.Shapes.{right_count, stack_bytes}

@@ -1,6 +1,10 @@
 // The words of document 01: registers and offsets, the placement, heads and kinds, the states, and the answer of each call.
-// Types alone. What they mean stands in specs/, section by section; the laws of those definitions stand in proofs/.
+// Types, and what is read off one of them alone. What they mean stands in specs/, section by section; the laws of those
+// definitions stand in proofs/.
 #![tactic(auto)]
+
+ghost use Rattle.std.specs.Prelude.{◌≡◌};
+ghost use Rattle.convention.specs.Results.{refusal_number, fault_number};
 
 // The most states of a table: the definition `state_limit`.
 pub const STATE_LIMIT: usize = 200;
@@ -30,13 +34,41 @@ pub enum Placement {
     Nowhere,
 }
 
-// What a placement is made of: its form, 1 for registers, 2 for the stack and 0 for nowhere; its first register or its offset;
+// What a placement is made of, as its record says it and `parts_of` defines it, with the form as a number and no enum: its form, 1 for registers, 2 for the stack and 0 for nowhere; its first register or its offset;
 // its count.
 #[derive(Clone, Copy)]
 pub struct PlacementParts {
     pub form: u8,
     pub number: u32,
     pub count: u8,
+}
+
+impl From<Placement> for PlacementParts {
+    ghost use Rattle.std.specs.Prelude.{◌<◌};
+    ghost use Rattle.convention.specs.Lists.{parts_of};
+
+    // That a first register is a byte is said here, since its number has room for an offset.
+    ghost from_gives = { λ place parts. (parts ≡ parts_of place) × ((parts.form ≡ 2 → ⊥) → parts.number < 256) };
+
+    fn from(place: Placement) -> PlacementParts {
+        match place {
+            Placement::Registers(first, count) => PlacementParts {
+                form: 1,
+                number: first.0 as u32,
+                count,
+            },
+            Placement::Stack(offset, count) => PlacementParts {
+                form: 2,
+                number: offset.0,
+                count,
+            },
+            Placement::Nowhere => PlacementParts {
+                form: 0,
+                number: 0,
+                count: 0,
+            },
+        }
+    }
 }
 
 // The head of a sheet or a table: n, w, A and m.
@@ -55,13 +87,32 @@ pub struct Shape {
     pub alignment: u8,
 }
 
-// A sheet's kind. Of `starts` the first `tries` count; the others are 0.
+// A sheet's kind. Of `starts` the first `tries` count; the others are 0. The flags stay a number, as the definitions have them
+// (`sheet_kind_of`), and so does the number of starts beside them.
 #[derive(Clone, Copy)]
 pub struct SheetKind {
     pub shape: Shape,
     pub flags: u8,
     pub tries: u8,
     pub starts: [u8; 16],
+}
+
+impl SheetKind {
+    ghost use Rattle.convention.specs.Sheets.{may_use_stack, is_closing};
+
+    // Whether it may use the stack: flag 1.
+    pub fn may_use_stack(&self) -> bool
+        ensures { result ≡ may_use_stack self.now }
+    {
+        self.flags % 2 == 1
+    }
+
+    // Whether it is closing: flag 2.
+    pub fn is_closing(&self) -> bool
+        ensures { result ≡ is_closing self.now }
+    {
+        2 <= self.flags
+    }
 }
 
 // A sheet that was read. Of `kinds` the first m count; the others are blank.
@@ -81,7 +132,8 @@ pub struct Table {
     pub states: u16,
 }
 
-// One transition of a table, as its bytes say it.
+// One transition of a table, as its bytes say it. Its form is a number and no enum, since a byte may say any: `is_transition` and
+// `table_fault` are asked of every form, and so is the promise of `walking::Step::check`.
 #[derive(Clone, Copy)]
 pub struct Transition {
     pub form: u8,
@@ -112,48 +164,84 @@ pub struct ByTable {
     pub p: Offset,
 }
 
-// Whether bytes could be read; a refusal carries its number. (What was read stands beside it: an enum holds no array.)
-#[derive(Clone, Copy)]
-pub enum Reading {
-    Read,
-    Refused(u8),
+// Why a call refuses what it was given: one for each of document 01's numbers but 9 and 10, which `Unplaced` has.
+#[derive(Clone, Copy, Debug, PartialEq, Eq)]
+pub enum Refusal {
+    Length = 1,
+    Version = 2,
+    Missing = 3,
+    Head = 4,
+    Kind = 5,
+    LeftOver = 6,
+    Transition = 7,
+    Arguments = 8,
+    States = 11,
+    Room = 12,
+    Row = 13,
 }
 
-// The answer of reading a sheet. On a refusal the sheet is blank.
-#[derive(Clone, Copy)]
-pub struct SheetAnswer {
-    pub reading: Reading,
-    pub sheet: Sheet,
+impl Refusal {
+    // Its number: `refusal_number`.
+    pub fn number(self) -> u8
+        ensures { result ≡ refusal_number self }
+    {
+        self as u8
+    }
 }
 
-// The answer of reading a table. On a refusal the table is blank.
-#[derive(Clone, Copy)]
-pub struct TableAnswer {
-    pub reading: Reading,
-    pub table: Table,
+// What is wrong with a step: document 01's faults.
+#[derive(Clone, Copy, Debug, PartialEq, Eq)]
+pub enum Fault {
+    NoPlace = 1,
+    GivenTwice = 2,
+    WrongCount = 3,
+    Misaligned = 4,
 }
 
-// The answer of placing a list: the number of arguments and the final p; or a refusal, 9 with its position, 10 with
-// position and fault.
+impl Fault {
+    // Its number: `fault_number`.
+    pub fn number(self) -> u8
+        ensures { result ≡ fault_number self }
+    {
+        self as u8
+    }
+}
+
+// A list that was placed: the number of its arguments and the final p.
 #[derive(Clone, Copy)]
-pub enum PlacingAnswer {
-    Placed(usize, Offset),
+pub struct Placed {
+    pub arguments: usize,
+    pub p: Offset,
+}
+
+// Why a list was not placed: a refusal; or an unknown kind, with its position, number 9; or a faulty step, with its position, number 10.
+#[derive(Clone, Copy)]
+pub enum Unplaced {
+    Refused(Refusal),
     Unknown(usize),
-    Faulty(usize, u8),
-    Refused(u8),
+    Faulty(usize, Fault),
 }
 
-// The answer of building: N and the table's length.
-#[derive(Clone, Copy)]
-pub enum BuildingAnswer {
-    Built(u16, usize),
-    Refused(u8),
+impl From<Refusal> for Unplaced {
+    ghost use Rattle.convention.specs.declared.Unplaced.TheVariants.{Refused};
+
+    ghost from_gives = { λ refusal unplaced. unplaced ≡ Refused refusal };
+
+    fn from(refusal: Refusal) -> Unplaced {
+        Unplaced::Refused(refusal)
+    }
 }
 
-// The answer of judging: clean, or fault number and list length.
+// A table that was built: N and its length.
 #[derive(Clone, Copy)]
-pub enum JudgingAnswer {
-    Clean,
-    Fault(u8, usize),
-    Refused(u8),
+pub struct Built {
+    pub states: u16,
+    pub length: usize,
+}
+
+// A list that goes wrong: the fault of its first faulty step, and how many kinds it has.
+#[derive(Clone, Copy)]
+pub struct FaultyList {
+    pub fault: Fault,
+    pub kinds: usize,
 }

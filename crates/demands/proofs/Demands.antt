@@ -9,10 +9,10 @@ use lib.ListN.{length, get_or, take, drop}
 use lib.Seq.{get_or-take, drop_at, length-take-le}
 use Rattle.convention.specs.declared.Offset.{Offset}
 use Rattle.convention.specs.declared.Placement.TheVariants.{Nowhere}
-use Rattle.convention.specs.declared.PlacingAnswer.TheVariants.{Placed}
-use Rattle.convention.specs.declared.BuildingAnswer.TheVariants.{Built}
-use Rattle.convention.specs.declared.JudgingAnswer.{JudgingAnswer}
-use Rattle.convention.specs.declared.JudgingAnswer.TheVariants.{Clean, Fault}
+use Rattle.convention.specs.Answers.{Placed}
+use Rattle.convention.specs.Answers.{Built}
+use Rattle.convention.specs.Answers.{JudgingAnswer}
+use Rattle.convention.specs.Answers.{Clean, Fault}
 use Rattle.convention.specs.Numbers.{state_limit, argument_limit}
 use Rattle.convention.specs.Sheets.{sheet_no, sheet_of, read_sheet}
 use Rattle.convention.specs.Tables.{table_no, table_of, read_table}

@@ -10,8 +10,8 @@ use lib.Dec.{ltb, leb, lit<}
 use lib.ListN.{length, get_or, take, drop, take-append-drop}
 use lib.Seq.{length-take-le}
 use borrow.Author.Tests.{ltb-true, ltb-false}
-use Rattle.convention.specs.declared.PlacingAnswer.{PlacingAnswer}
-use Rattle.convention.specs.declared.PlacingAnswer.TheVariants.{Placed, Unknown, Faulty}
+use Rattle.convention.specs.Answers.{PlacingAnswer}
+use Rattle.convention.specs.Answers.{Placed, Unknown, Faulty}
 use Rattle.convention.specs.Numbers.{argument_limit, or_else, unless, placing_says}
 use Rattle.convention.specs.Lists.{Steps, fault_from, stop_from, state_from, unknown_at, record_length, walk_answer, placed_or_refused, placing, placing_memory, KindsBelow}
 use Rattle.convention.proofs.Numbers.{or_zero, or_here, or_at, or_past, or_on, or_keeps}

@@ -11,12 +11,12 @@
 -- `sheet_kind_says` and `table_kind_says`. `Steps` is either way of placing: `by_rules` and `by_table`. `Before` is shorter, or as long and earlier in kind order.
 use Rattle.std.specs.Prelude.{ℕ, ◌-◌, ◌*◌, ◌≤◌, ◌<◌, ◌≡◌, ◌⊎◌, ◌↔◌, List, [], ◌∷◌, length, get_or, take, drop}
 use Rattle.convention.specs.declared.Offset.{Offset}
-use Rattle.convention.specs.declared.PlacingAnswer.{PlacingAnswer}
-use Rattle.convention.specs.declared.PlacingAnswer.TheVariants.{Placed, Unknown, Faulty}
-use Rattle.convention.specs.declared.BuildingAnswer.{BuildingAnswer}
-use Rattle.convention.specs.declared.BuildingAnswer.TheVariants.{Built}
-use Rattle.convention.specs.declared.JudgingAnswer.{JudgingAnswer}
-use Rattle.convention.specs.declared.JudgingAnswer.TheVariants.{Clean, Fault}
+use Rattle.convention.specs.Answers.{PlacingAnswer}
+use Rattle.convention.specs.Answers.{Placed, Unknown, Faulty}
+use Rattle.convention.specs.Answers.{BuildingAnswer}
+use Rattle.convention.specs.Answers.{Built}
+use Rattle.convention.specs.Answers.{JudgingAnswer}
+use Rattle.convention.specs.Answers.{Clean, Fault}
 use Rattle.convention.specs.Numbers.{state_limit, argument_limit, reading_no, placing_says, building_says, judging_says}
 use Rattle.convention.specs.Fields.{length_field}
 use Rattle.convention.specs.Sheets.{sheet_no, sheet_of, read_sheet}

@@ -1,4 +1,2 @@
-pub mod Memory
-pub mod Storing
 pub mod Meeting
 pub mod Paths

@@ -1,106 +1,112 @@
-// The entries of an exploration, in lent memory: which nodes were met, in the order of meeting, and from which entry and by
-// which kind each was. Nodes are the numbers below `nodes`. Of the memory the first bytes, six for each node, are the
-// exploration's, as specs/Memory.antt lays them out; the others are the caller's, and no function but `write_path` touches them.
-// No function knows what is explored: whatever entries the memory holds, of whatever automaton, it holds those afterwards that
-// the definitions make of them.
+// The entries of an exploration: which nodes were met, in the order of meeting, and from which entry and by which kind each was.
+// Nodes are the numbers below `NODES`. No function knows what is explored: whatever automaton the entries are read as those of,
+// they are afterwards what the definitions make of them (specs/Stored.antt).
 #![tactic(auto)]
 
-mod words;
+ghost use Rattle.std.specs.Prelude.{◌≡◌, ◌*◌, ◌≤◌, ◌<◌, [], ◌∷◌, length};
+ghost use Rattle.exploring.specs.Stored.{pair_kinds, word_limit, start_entry, MeetAsks, MeetIs, NodeIs, PathIs};
 
-ghost use Rattle.std.specs.Prelude.{◌≡◌, ◌<◌};
-ghost use Rattle.exploring.specs.Memory.{word_limit, EntryRoom, AppendAsks, appended, Cleared};
-ghost use Rattle.exploring.specs.Stored.{StartIs, MeetAsks, MeetIs, count_after, EntryAsks, EntryIs, PathAsks, PathIs};
+use std::marker::Model;
 
 // How many kinds a pair of entry and kind can tell apart.
 const PAIR_KINDS: usize = 8;
 
-// Makes every mark 0.
-fn clear(work: &mut [u8], nodes: usize)
-    requires { EntryRoom nodes work.old }
-    ensures { Cleared nodes nodes work.old work.new }
-{
-    let mut node = 0;
-    while node < nodes {
-        words::write_word(work, node, 0);
-        node += 1;
-    }
+// One node met, and the pair of the entry from which and the kind by which it was: 8 * parent + kind, one number, so that an
+// entry takes four bytes. As two fields they would make it six, and judging would need more stack than the header says.
+#[derive(Clone, Copy)]
+pub struct Entry {
+    pub node: u16,
+    pub pair: u16,
 }
 
-// Appends an entry to `count` others: its node's mark, its node, and the pair that led to it.
-fn append(work: &mut [u8], nodes: usize, count: usize, node: usize, pair: usize)
-    requires { AppendAsks nodes work.old count node pair }
-    ensures { work.new ≡ appended nodes work.old count node pair }
-{
-    words::write_word(work, node, count + 1);
-    words::write_word(work, nodes + count, node);
-    words::write_word(work, 2 * nodes + count, pair);
-}
+// The first entry: node 0, met from nowhere.
+const START: Entry = Entry { node: 0, pair: 0 };
 
-// Begins an exploration: node 0 is the only entry.
-pub fn start(work: &mut [u8], nodes: usize)
-    requires { EntryRoom nodes work.old }
-    ensures { StartIs nodes work.old work.new }
-{
-    clear(work, nodes);
-    append(work, nodes, 0, 0, 0);
-}
-
-// Meets a node, to which a kind led from entry `parent`, where there are `count` entries: one that is new is appended. Answers
-// the node's number, which is `count` exactly where it was new.
-pub fn meet(
-    work: &mut [u8],
-    nodes: usize,
+// The entries of an exploration, in arrays that fit them all and no `Vec` or map, as the project uses no heap. A node's mark is the number of its entry plus one, and 0 where it was not met: an
+// `Option<u16>` would take twice the bytes.
+#[derive(Drop)]
+pub struct Exploration<const NODES: usize> {
+    marks: [u16; NODES],
+    entries: [Entry; NODES],
     count: usize,
-    node: usize,
-    parent: usize,
-    kind: u8,
-) -> usize
-    requires { MeetAsks nodes work.old count node parent kind }
-    ensures { MeetIs nodes work.old count node parent kind result work.new }
-{
-    let mark = words::read_word(work, node);
-    if mark != 0 {
-        return mark - 1;
+}
+
+// Clauses see the entries, in the order of meeting.
+impl<const NODES: usize> Model for Exploration<NODES> {
+    ghost use Rattle.std.specs.Prelude.{List, take};
+    ghost use Rattle.exploring.specs.declared.Entry.{Entry};
+
+    ghost Value = { List Entry };
+
+    ghost use Rattle.exploring.specs.Stored.{Kept};
+
+    ghost view = { λ x. take x.count x.entries };
+
+    ghost invariant = { λ x. Kept NODES x.marks x.entries x.count };
+}
+
+impl<const NODES: usize> Exploration<NODES> {
+    // Begins an exploration: node 0 is the only entry.
+    pub fn start() -> Self
+        requires some { 0 < NODES }
+        requires words { pair_kinds * NODES ≤ word_limit }
+        ensures { result ≡ start_entry ∷ [] }
+    {
+        let mut marks = [0; NODES];
+        marks[0] = 1;
+        Exploration {
+            marks,
+            entries: [START; NODES],
+            count: 1,
+        }
     }
-    append(
-        work,
-        nodes,
-        count,
-        node,
-        PAIR_KINDS * parent + kind as usize,
-    );
-    count
-}
 
-// How many entries there are once a node was met that has that number, where there were `count`.
-pub fn count_after(count: usize, number: usize) -> usize
-    requires { count < word_limit }
-    ensures { result ≡ count_after count number }
-{
-    if number == count { count + 1 } else { count }
-}
-
-// The node of an entry.
-pub fn entry_node(work: &[u8], nodes: usize, entry: usize) -> usize
-    requires { EntryAsks nodes work.now entry }
-    ensures { EntryIs nodes work.now entry result }
-{
-    words::read_word(work, nodes + entry)
-}
-
-// Writes the path to an entry so that it ends before byte `end`, among the caller's bytes: from its last kind on, by the pairs,
-// to the start. Answers where it begins.
-pub fn write_path(work: &mut [u8], nodes: usize, entry: usize, end: usize) -> usize
-    requires { PathAsks nodes work.old entry end }
-    ensures { PathIs nodes work.old entry end result work.new }
-{
-    let mut at = end;
-    let mut i = entry;
-    while 0 < i {
-        let pair = words::read_word(work, 2 * nodes + i);
-        at -= 1;
-        work[at] = (pair % PAIR_KINDS) as u8;
-        i = pair / PAIR_KINDS;
+    // The node of entry i, where there is one.
+    #[tactic(auto, using(crate::proofs::Meeting::node_there, crate::proofs::Meeting::node_none))]
+    pub fn node(&self, i: usize) -> Option<usize>
+        ensures { NodeIs self.now i result }
+    {
+        if i < self.count {
+            Some(self.entries[i].node as usize)
+        } else {
+            None
+        }
     }
-    at
+
+    // Meets a node, to which a kind led from entry `parent`: one that is new is appended. Answers the node's number, which is
+    // how many entries there were exactly where it was new.
+    pub fn meet(&mut self, node: usize, parent: usize, kind: u8) -> usize
+        requires { MeetAsks NODES self.old node parent kind }
+        ensures { MeetIs self.old node parent kind result self.new }
+    {
+        if let Some(number) = (self.marks[node] as usize).checked_sub(1) {
+            return number;
+        }
+        let number = self.count;
+        self.entries[number] = Entry {
+            node: node as u16,
+            pair: (PAIR_KINDS * parent + kind as usize) as u16,
+        };
+        self.count = number + 1;
+        self.marks[node] = self.count as u16;
+        number
+    }
+
+    // Writes the path to entry i into the last bytes of `to`, going from parent to parent, which no `for` counts: from its last kind on, by the pairs, to the start. Answers where
+    // it begins.
+    pub fn write_path(&self, i: usize, to: &mut [u8]) -> usize
+        requires inside { i < length self.now }
+        requires room { i ≤ length to.old }
+        ensures { PathIs self.now i to.old result to.new }
+    {
+        let mut at = to.len();
+        let mut j = i;
+        while 0 < j {
+            let pair = self.entries[j].pair as usize;
+            at -= 1;
+            to[at] = (pair % PAIR_KINDS) as u8;
+            j = pair / PAIR_KINDS;
+        }
+        at
+    }
 }

@@ -1,7 +1,9 @@
 // Where the fields of a sheet and a table stand, and how long their parts are: each a definition of
-// crates/convention/specs/Layout.antt, and once in code here. What depends on a file's version takes it as an argument.
+// crates/convention/specs/Layout.antt, and once in code here. What depends on a file's version alone takes it as an argument; what
+// depends on its head too is a method of `Layout`.
 // Beside the definition each function promises a bound, so that sums fit: a length can be said in a byte, and what follows from that.
 ghost use Rattle.std.specs.Prelude.{◌≡◌, ◌*◌, ◌≤◌, ◌<◌, ◌^◌};
+ghost use Rattle.convention.specs.Fields.{version_of, head_of};
 ghost use Rattle.convention.specs.Layout.{shape_length, flags_at, tries_at, starts_at, table_kind_at, state_length, states_at, rows_at, transition_length, row_length, rows_length, row_at, in_row, transition_at};
 
 use convention::Head;
@@ -94,52 +96,12 @@ pub fn table_kind_at(version: u8, k: u8) -> usize
     KINDS_AT + shape_length(version) * k as usize
 }
 
-// Where the number of states stands.
-pub fn states_at(version: u8, head: Head) -> usize
-    ensures value { result ≡ states_at version head }
-    ensures upper_bound { result < 2 ^ 17 }
-{
-    table_kind_at(version, head.kinds)
-}
-
-// Where the first row starts.
-pub fn rows_at(version: u8, head: Head) -> usize
-    ensures value { result ≡ rows_at version head }
-    ensures upper_bound { result < 2 ^ 18 }
-{
-    states_at(version, head) + state_length(version)
-}
-
 // How many bytes a transition takes.
 pub fn transition_length(version: u8) -> usize
     ensures value { result ≡ transition_length version }
     ensures upper_bound { result ≤ 255 }
 {
     NEXT_AT + state_length(version)
-}
-
-// How many bytes a row takes.
-pub fn row_length(version: u8, head: Head) -> usize
-    ensures value { result ≡ row_length version head }
-    ensures upper_bound { result ≤ 255 * 255 }
-{
-    transition_length(version) * head.kinds as usize
-}
-
-// How many bytes the rows of so many states take.
-pub fn rows_length(version: u8, head: Head, states: u16) -> usize
-    ensures value { result ≡ rows_length version head states }
-    ensures upper_bound { result < 2 ^ 32 }
-{
-    row_length(version, head) * states as usize
-}
-
-// Where the row of a state starts; of as many states as there are, where the table ends.
-pub fn row_at(version: u8, head: Head, state: u16) -> usize
-    ensures value { result ≡ row_at version head state }
-    ensures upper_bound { result < 2 ^ 33 }
-{
-    rows_at(version, head) + rows_length(version, head, state)
 }
 
 // Where the transition of a kind starts, in a row that starts at byte `row`.
@@ -150,9 +112,68 @@ pub fn in_row(version: u8, row: usize, k: u8) -> usize
     row + transition_length(version) * k as usize
 }
 
-// Where the transition of a kind at a state starts.
-pub fn transition_at(version: u8, head: Head, state: u16, k: u8) -> usize
-    ensures { result ≡ transition_at version head state k }
-{
-    in_row(version, row_at(version, head, state), k)
+// Where the fields of a file of this version and head stand.
+#[derive(Clone, Copy)]
+pub struct Layout {
+    pub version: u8,
+    pub head: Head,
+}
+
+impl Layout {
+    // By the version and the head that a file's bytes say, whether they are right or not.
+    pub fn of(s: &[u8]) -> Self
+        ensures { result ≡ record { version = version_of s.now; head = head_of s.now } }
+    {
+        Layout {
+            version: crate::version_of(s),
+            head: crate::head_of(s),
+        }
+    }
+
+    // Where the number of states stands.
+    pub fn states_at(self) -> usize
+        ensures value { result ≡ states_at self.version self.head }
+        ensures upper_bound { result < 2 ^ 17 }
+    {
+        table_kind_at(self.version, self.head.kinds)
+    }
+
+    // Where the first row starts.
+    pub fn rows_at(self) -> usize
+        ensures value { result ≡ rows_at self.version self.head }
+        ensures upper_bound { result < 2 ^ 18 }
+    {
+        self.states_at() + state_length(self.version)
+    }
+
+    // How many bytes a row takes.
+    pub fn row_length(self) -> usize
+        ensures value { result ≡ row_length self.version self.head }
+        ensures upper_bound { result ≤ 255 * 255 }
+    {
+        transition_length(self.version) * self.head.kinds as usize
+    }
+
+    // How many bytes the rows of so many states take.
+    pub fn rows_length(self, states: u16) -> usize
+        ensures value { result ≡ rows_length self.version self.head states }
+        ensures upper_bound { result < 2 ^ 32 }
+    {
+        self.row_length() * states as usize
+    }
+
+    // Where the row of a state starts; of as many states as there are, where the table ends.
+    pub fn row_at(self, state: u16) -> usize
+        ensures value { result ≡ row_at self.version self.head state }
+        ensures upper_bound { result < 2 ^ 33 }
+    {
+        self.rows_at() + self.rows_length(state)
+    }
+
+    // Where the transition of a kind at a state starts.
+    pub fn transition_at(self, state: u16, k: u8) -> usize
+        ensures { result ≡ transition_at self.version self.head state k }
+    {
+        in_row(self.version, self.row_at(state), k)
+    }
 }

@@ -1,12 +1,13 @@
 // A kind's shape, which is its size and alignment: reading one, and what it asks of a place, by the rules and by a table alike.
 ghost use Rattle.std.specs.Prelude.{◌≡◌, true, ◌+◌, ◌≤◌, length, drop};
 ghost use Rattle.convention.specs.Layout.{shape_length};
+ghost use Rattle.convention.specs.Results.{number_of};
 ghost use Rattle.convention.specs.Fields.{is_width, is_alignment, shape_no, shape_of};
 ghost use Rattle.convention.specs.Sheets.{blank_shape};
 ghost use Rattle.convention.specs.Shapes.{registers_needed, right_count, stack_bytes};
 
-use crate::layout::{ALIGNMENT_AT, SIZE_AT};
-use convention::{Head, Shape};
+use crate::layout::{ALIGNMENT_AT, Layout, SIZE_AT};
+use convention::{Head, Refusal, Shape};
 
 fn is_alignment(head: Head, x: u8) -> bool
     ensures { result ≡ is_alignment head x }
@@ -15,13 +16,14 @@ fn is_alignment(head: Head, x: u8) -> bool
 }
 
 // Number 5, or 3, for a kind's size and alignment; s begins at the kind's first byte.
-pub fn shape_no(version: u8, head: Head, s: &[u8]) -> u8
-    ensures { result ≡ shape_no version head s.now }
+#[tactic(auto, using(convention::proofs::Results::tests), unfolding(convention::specs::Fields::shape_no))]
+pub fn check_shape(layout: Layout, s: &[u8]) -> Result<(), Refusal>
+    ensures { number_of result ≡ shape_no layout.version layout.head s.now }
 {
     let size = crate::byte_at(s, SIZE_AT);
-    let right = crate::field_no(s, SIZE_AT, (1 <= size) & (size <= 64), 5);
-    let aligned = is_alignment(head, crate::byte_at(s, ALIGNMENT_AT));
-    crate::or_else(right, crate::field_no(s, ALIGNMENT_AT, aligned, 5))
+    crate::check_field(s, SIZE_AT, (1 <= size) & (size <= 64), Refusal::Kind)?;
+    let aligned = is_alignment(layout.head, crate::byte_at(s, ALIGNMENT_AT));
+    crate::check_field(s, ALIGNMENT_AT, aligned, Refusal::Kind)
 }
 
 // Both, whether they are right or not.
@@ -34,7 +36,7 @@ pub fn shape_of(version: u8, s: &[u8]) -> Shape
     }
 }
 
-// The shape whose bytes, which are there, begin at byte `at`.
+// The shape whose bytes, which are there, begin at byte `at`: `shape_of` for where no byte can be missing, with no test of that.
 pub fn read_shape(version: u8, s: &[u8], at: usize) -> Shape
     requires { at + shape_length version ≤ length s.now }
     ensures { result ≡ shape_of version (drop at s.now) }
@@ -55,6 +57,7 @@ pub fn blank_shape() -> Shape
     }
 }
 
+// (That a width is one of 01's is asked here and no type: a head holds it as the byte that was read, right or wrong.)
 // 'A kind needs k registers, size / w rounded up.' A width is a power of two, so the division is a shift: by 0, 1, 2 and 3 for
 // the widths 1, 2, 4 and 8, which is w / 2 - w / 8.
 pub fn registers_needed(width: u8, shape: Shape) -> u8

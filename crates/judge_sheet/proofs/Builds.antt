@@ -7,8 +7,11 @@ use lib.ListN.{length, take}
 use borrow.Author.Tests.{le-leb}
 use Rattle.io.proofs.Counting.{length-take_of_le}
 use Rattle.convention.specs.declared.Head.{Head}
-use Rattle.convention.specs.declared.BuildingAnswer.{BuildingAnswer}
-use Rattle.convention.specs.declared.BuildingAnswer.TheVariants.{Built}
+use Rattle.convention.specs.Answers.{Built}
+use Rattle.std.specs.Prelude.{Result, Ok}
+use Rattle.convention.specs.declared.Refusal.{Refusal}
+use Rattle.convention.specs.declared.Built.{Built as BuiltTable}
+use Rattle.convention.specs.Results.{building_answer}
 use Rattle.convention.specs.Numbers.{state_limit, or_else}
 use Rattle.convention.specs.Fields.{head_of}
 use Rattle.convention.specs.Sheets.{sheet_no, sheet_of}
@@ -42,10 +45,16 @@ module _ (s : List ℕ) where
   room_enough = rw same_no
 
   -- A table that was built is the first `len` bytes of the memory.
-  module _ (before after : List ℕ) (building : BuildingAnswer) (n len : ℕ) (built : building ≡ build state_limit s (length before))
-      (memory : after ≡ build_memory state_limit s before) (is : building ≡ Built n len) where
+  module _ (before after : List ℕ) (result : Result BuiltTable Refusal) (said : building_answer result ≡ build state_limit s (length before))
+      (memory : after ≡ build_memory state_limit s before) (built : BuiltTable) (is : result ≡ Ok built) where
+    abbrev n : ℕ
+    n = built.states
+
+    abbrev len : ℕ
+    len = built.length
+
     known : build state_limit s (length before) ≡ Built n len
-    known = sym built ∙ is
+    known = sym said ∙ rw is
 
     pub table_bytes : take len after ≡ built_table state_limit (sheet_of s)
     table_bytes = rw memory (bytes_are state_limit s before n len known)

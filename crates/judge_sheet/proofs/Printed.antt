@@ -8,10 +8,10 @@ use native.Mathlib.Omega.{arith}
 use lib.ListN.{length, take}
 use lib.Seq.{length-take-le, take_all}
 use borrow.Author.Tests.{le-leb}
-use Rattle.convention.specs.declared.BuildingAnswer.{BuildingAnswer}
-use Rattle.convention.specs.declared.BuildingAnswer.TheVariants.{Built}
-use Rattle.convention.specs.declared.JudgingAnswer.{JudgingAnswer}
-use Rattle.convention.specs.declared.JudgingAnswer.TheVariants.{Clean, Fault}
+use Rattle.convention.specs.Answers.{BuildingAnswer}
+use Rattle.convention.specs.Answers.{Built}
+use Rattle.convention.specs.Answers.{JudgingAnswer}
+use Rattle.convention.specs.Answers.{Clean, Fault}
 use Rattle.convention.specs.Numbers.{state_limit, or_else, judging_says}
 use Rattle.convention.specs.Sheets.{sheet_of}
 use Rattle.convention.specs.Tables.{table_no}

@@ -1,8 +1,8 @@
 -- What the parts of the program ask and promise. What the whole means is `Prints`, crates/convention/specs/Program.antt.
 use Rattle.std.specs.Prelude.{ℕ, ◌*◌, ◌≤◌, ◌≡◌, List, length, take}
 use Rattle.io.specs.Counts.{IsPrefixLen}
-use Rattle.convention.specs.declared.BuildingAnswer.TheVariants.{Built}
-use Rattle.convention.specs.declared.JudgingAnswer.{JudgingAnswer}
+use Rattle.convention.specs.Answers.{Built}
+use Rattle.convention.specs.Answers.{JudgingAnswer}
 use Rattle.convention.specs.Numbers.{state_limit, judging_says}
 use Rattle.convention.specs.Tables.{table_no, table_of}
 use Rattle.convention.specs.Built.{built_most}

@@ -3,11 +3,10 @@
 #![tactic(auto)]
 
 ghost use Rattle.std.specs.Prelude.{◌≡◌, ◌≤◌, length, IfOk};
-ghost use Rattle.convention.specs.Numbers.{judging_says};
 ghost use Rattle.convention.specs.Program.{Prints};
 ghost use Rattle.judge_sheet.specs.Texts.{line_room, TextIs, TableLineAsks, TableLine};
 
-use convention::{BuildingAnswer, JudgingAnswer, STATE_LIMIT};
+use convention::{Refusal, STATE_LIMIT};
 use std::io;
 use std::io::{Read, Write};
 
@@ -20,27 +19,17 @@ const LIST_ROOM: usize = 2 * STATE_LIMIT;
 // `line_room`: the most bytes of a line.
 const LINE_ROOM: usize = 818;
 
-// How many kinds the verdict's list has.
-fn list_length(verdict: JudgingAnswer) -> usize
-    ensures { result ≡ (judging_says verdict).count }
-{
-    match verdict {
-        JudgingAnswer::Clean => 0,
-        JudgingAnswer::Fault(_, n) => n,
-        JudgingAnswer::Refused(_) => 0,
-    }
-}
-
-// Judges a table that was built and writes its line. Answers how long it is.
+// Judges a table that was built, which is never refused, and writes its line. Answers how long it is.
 fn table_line(states: u16, kinds: u8, table: &[u8], out: &mut [u8]) -> usize
     requires { TableLineAsks states kinds table.now out.old }
     ensures { TextIs (TableLine states kinds table.now) result out.new }
 {
     let mut list = [0u8; LIST_ROOM];
-    let verdict = judging::judge(table, &mut list);
-    let n = list_length(verdict);
-    let building = BuildingAnswer::Built(states, table.len());
-    line::write_line(building, kinds, verdict, &list[..n], out)
+    let Some(found) = judging::judge(table, &mut list).unwrap() else {
+        return line::write_clean(states, kinds, out);
+    };
+    let n = found.kinds;
+    line::write_faulty(states, kinds, found.fault.number(), n, &list[..n], out)
 }
 
 // Writes the line of an input, of which the first 1,025 bytes are enough. Answers how long it is.
@@ -49,18 +38,18 @@ fn answer(input: &[u8], out: &mut [u8]) -> usize
     ensures { TextIs (Prints input.now) result out.new }
 {
     if INPUT_LIMIT < input.len() {
-        return line::write_refused(1, out);
+        return line::write_refused(Refusal::Length.number(), out);
     }
     let kinds = fields::head_of(input).kinds;
     let mut table = [0u8; TABLE_ROOM];
-    let building = building::build(input, &mut table);
-    match building {
-        BuildingAnswer::Built(states, len) => table_line(states, kinds, &table[..len], out),
-        BuildingAnswer::Refused(number) => line::write_refused(number, out),
+    match building::build(input, &mut table) {
+        Ok(built) => table_line(built.states, kinds, &table[..built.length], out),
+        Err(refusal) => line::write_refused(refusal.number(), out),
     }
 }
 
-// Reads until `input` is full or the reader ends. Answers how many bytes were read, which are the first of `input`.
+// Reads until `input` is full or the reader ends. Answers how many bytes were read, which are the first of `input`. A loop of its own:
+// `read_exact` refuses an input that ends sooner, and `read_to_end` needs a heap.
 fn read_full<R: Read>(reader: &mut R, input: &mut [u8]) -> io::Result<usize>
     ensures { IfOk result (λ n. n ≤ length input.new) }
 {

@@ -1,135 +1,77 @@
 -- Why the best of the lists found is the least of them: nothing is watched first, and then a register at a time.
-use Prim.Native.Nat.{ℕ, ◌+◌, ◌-◌, ◌≤◌, ◌<◌}
-use native.Mathlib.Omega.{arith}
-use mathlib.Core.Path.{◌≡◌, sym, ◌∙◌}
-use mathlib.Core.Logic.{inl, inr}
-use mathlib.Core.Bool.{Bool, true}
-use mathlib.Core.List.{List}
-use lib.ListN.{length}
+use Rattle.std.proofs.Common.{ℕ, ◌+◌, ◌≤◌, ◌<◌, ◌≡◌, inl, inr, Bool, true, List, refl, sym, subst, ◌∙◌, arith, Option, Some, None}
 use Rattle.convention.specs.declared.Reg.{Reg}
 use Rattle.convention.specs.declared.Table.{Table}
 use Rattle.convention.specs.Numbers.{state_limit}
+use Rattle.convention.specs.Orders.{NotAfter}
 use Rattle.convention.specs.Rules.{free_run}
-use Rattle.convention.specs.Promised.{TableRead}
 use Rattle.convention.proofs.Runs.{free_each}
-use Rattle.stepping.specs.Sets.{set_of}
+use Rattle.convention.specs.Promised.{TableRead}
 use Rattle.certifying.specs.Certified.{OnceBut}
-use Rattle.judging.specs.declared.steps.Watch.TheVariants.{Register, Nothing}
-use Rattle.judging.specs.Watched.{nodes, WatchedBelow}
-use Rattle.judging.specs.Memory.{found_end, best_end, list_at}
-use Rattle.judging.specs.Listed.{ListsAsk, KeepAsks, kept, Stays, Changes, BetterIs}
-use Rattle.judging.specs.Found.{FindAsks, FindIs, BestIs, NextAsks}
-use Rattle.judging.proofs.Finding.{slice_same, room_stays}
-use Rattle.judging.proofs.Listing.{kept_list}
+use Rattle.stepping.specs.Sets.{set_of}
+use Rattle.judging.specs.Watched.{FirstHit, hit_list, LeastBelow}
+use Rattle.judging.specs.Found.{FindIs, ImproveIs, BestIs}
 use Rattle.judging.proofs.Least.{none_first, least_only, none_on, least_new, least_on, least_kept, least_changed, none_once, least_once}
 
--- Nothing can be watched,
-pub first_watches : WatchedBelow 16 Nothing
-unfolding WatchedBelow
-first_watches = tt
-
--- and what is found then can be kept, and is the best before the first register.
-module _ (table : Table) (t before : List ℕ) (asks : FindAsks table t before) (found : ℕ) (mid : List ℕ)
-    (find : FindIs table t Nothing before found mid) (long : length mid ≡ length before) where
-  pub first_keeps : KeepAsks (nodes table) mid found
-  first_keeps = record { room = room_stays (nodes table) before mid asks.room long; short = find.short }
-
-  pub best_first : (work : List ℕ) → work ≡ kept (nodes table) mid found → length work ≡ length mid → BestIs table t 0 found work
-  best_first work e long' = record {
-    none = λ z. none_first table t (find.none z);
-    some = λ p.
-        let (i, k, hit, list) = find.some p in
-        rw (e, kept_list (nodes table) mid found first_keeps, list) (least_only table t i k hit);
-    short = find.short;
-    room = room_stays (nodes table) mid work first_keeps.room long';
-  }
+-- What is found where nothing is watched is the best before the first register.
+pub best_first : (table : Table) (t : List ℕ) (after : Option (List ℕ)) → ImproveIs table t None None after → BestIs table t 0 after
+best_first table t after improve = elim improve.better [
+  | inl s ↦ record { none = λ _. none_first table t (improve.find.none (none improve.found s.why)); some = λ ks e. absurd (cc (s.is)) }
+  | inr s ↦
+      let (i, k, hit, list) = improve.find.some s.list s.was in
+      record { none = λ e. absurd (cc (s.is)); some = λ ks e. let same : s.list ≡ ks = cc (s.is) in rw (← same, list) (least_only table t i k hit) }
+]
+  where
+    none : (found : Option (List ℕ)) → ((ks : List ℕ) → found ≡ Some ks → (others : List ℕ) × (None ≡ Some others) × NotAfter others ks) → found ≡ None
+    none None why = refl
+    none (Some ks) why = let (others, e, _) = why ks refl in absurd (cc)
 
 -- The register of a number.
 abbrev register : ℕ → Reg
 register i = record { 0 = i }
 
--- What going on to register i asks.
-pub next_asks : (table : Table) (t : List ℕ) (twice i best : ℕ) (work : List ℕ) → TableRead state_limit table t → OnceBut table t twice → i < table.head.registers
-    → BestIs table t i best work → NextAsks table t twice i best work
-next_asks table t twice i best work read but h half = record { read = read; but = but; inside = h; half = half }
+-- What is found where r is watched is the least, where there was no best, or none that is before it.
+least_found : (table : Table) (t : List ℕ) (r : Reg) (best : Option (List ℕ)) → BestIs table t r.0 best → (j k : ℕ) → FirstHit table t (Some r) j k
+    → ((ks : List ℕ) → best ≡ Some ks → NotAfter (hit_list table t (Some r) j k) ks) → LeastBelow table t (r.0 + 1) (hit_list table t (Some r) j k)
+least_found table t r None half j k hit why = least_new table t r (half.none refl) j k hit
+least_found table t r (Some ks) half j k hit why = least_changed table t r ks (half.some ks refl) j k hit (why ks refl)
+
+-- The best stays the least where nothing is found, or what is not before it.
+least_stays : (table : Table) (t : List ℕ) (r : Reg) (best : Option (List ℕ)) → BestIs table t r.0 best → (found : Option (List ℕ)) → FindIs table t (Some r) found
+    → ((ks : List ℕ) → found ≡ Some ks → (others : List ℕ) × (best ≡ Some others) × NotAfter others ks) → BestIs table t (r.0 + 1) best
+least_stays table t r best half None find why = record {
+  none = λ e. none_on table t r (half.none e) (find.none refl);
+  some = λ ks e. least_on table t r ks (half.some ks e) (find.none refl);
+}
+least_stays table t r best half (Some ks) find why =
+    let (others, was, after) = why ks refl in
+    let (j, k, hit, is) = find.some ks refl in
+    record {
+      none = λ e. absurd (cc);
+      some = λ list e. let same : others ≡ list = cc in subst (LeastBelow table t (r.0 + 1)) same (least_kept table t r others (half.some others was) j k hit (subst (NotAfter others) is after));
+    }
 
 -- The best before register i.
-module _ (table : Table) (t : List ℕ) (twice i best : ℕ) (work : List ℕ) (asks : NextAsks table t twice i best work) where
-  abbrev half : BestIs table t i best work
-  half = asks.half
-
+module _ (table : Table) (t : List ℕ) (read : TableRead state_limit table t) (twice i : ℕ) (inside : i < table.head.registers) (best : Option (List ℕ)) (half : BestIs table t i best) where
   -- It is one of the sixteen.
   pub next_within : i + 1 ≤ 16
-  next_within = omega (arith, asks.inside, asks.read.head.registers)
+  next_within = omega (arith, inside, read.head.registers)
 
   -- Where it is never given twice the best stays,
-  pub best_skips : (free : Bool) → free ≡ free_run (set_of 16 twice) i 1 → free ≡ true → BestIs table t (i + 1) best work
-  best_skips free e y =
-      let once = asks.but.once i (omega (arith, next_within)) (free_each (set_of 16 twice) i 1 (sym e ∙ y) i (omega arith) (omega arith)) in
+  pub best_skips : OnceBut table t twice → (free : Bool) → free ≡ free_run (set_of 16 twice) i 1 → free ≡ true → BestIs table t (i + 1) best
+  best_skips but free e y =
+      let once = but.once i (omega (arith, next_within)) (free_each (set_of 16 twice) i 1 (sym e ∙ y) i (omega arith) (omega arith)) in
       record {
-        none = λ z. none_once state_limit table t asks.read (register i) once (half.none z);
-        some = λ p. least_once state_limit table t asks.read (register i) once _ (half.some p);
-        short = half.short;
-        room = half.room;
+        none = λ e. none_once state_limit table t read (register i) once (half.none e);
+        some = λ ks e. least_once state_limit table t read (register i) once ks (half.some ks e);
       }
 
-  -- and else it can be watched.
-  pub best_finds : FindAsks table t work
-  best_finds = record { read = asks.read; room = half.room }
-
-  pub best_watches : WatchedBelow 16 (Register (register i))
-  unfolding WatchedBelow
-  best_watches = omega (arith, next_within)
-
-  module _ (found : ℕ) (mid : List ℕ) (find : FindIs table t (Register (register i)) work found mid) (long : length mid ≡ length work) where
-    -- What is found there can be compared with the best.
-    pub best_lists : ListsAsk (nodes table) mid found best
-    best_lists = record { room = room_stays (nodes table) work mid half.room long; short = find.short; short_best = half.short }
-
-    same_best : list_at mid (best_end (nodes table)) best ≡ list_at work (best_end (nodes table)) best
-    same_best =
-        slice_same (found_end (nodes table)) (best_end (nodes table) - best) (best_end (nodes table)) mid work (omega (arith, half.short)) find.best
-
-    -- One more register: the best stays, or is what was found.
-    stays : Stays (nodes table) mid found best best mid → BestIs table t (i + 1) best mid
-    stays s = elim s.why [
-      | inl z ↦ record {
-        none = λ e. none_on table t (register i) (half.none e) (find.none z);
-        some = λ p. rw same_best (least_on table t (register i) _ (half.some p) (find.none z));
-        short = half.short;
-        room = best_lists.room;
-      }
-      | inr (some, was, after) ↦
-          let (j, k, hit, list) = find.some some in
-          record {
-            none = λ e. absurd (omega arith);
-            some = λ p. rw same_best (least_kept table t (register i) _ (half.some p) j k hit (rw (same_best, list) at after));
-            short = half.short;
-            room = best_lists.room;
-          }
-    ]
-
-    changes : (after : List ℕ) → Changes (nodes table) mid found best found after → length after ≡ length mid → BestIs table t (i + 1) found after
-    changes after s long' =
-        let (j, k, hit, list) = find.some s.some in
-        record {
-          none = λ e. absurd (omega (arith, s.some));
-          some = λ _. rw (s.list, list) (elim s.why [
-            | inl z ↦ least_new table t (register i) (half.none z) j k hit
-            | inr (was, before) ↦ least_changed table t (register i) _ (half.some was) j k hit (rw (same_best, list) at before)
-          ]);
-          short = find.short;
-          room = room_stays (nodes table) mid after best_lists.room long';
-        }
-
-    pub best_turn : (n : ℕ) (after : List ℕ) → BetterIs (nodes table) mid found best n after → length after ≡ length mid
-        → BestIs table t (i + 1) n after
-    best_turn n after better long' = elim better.choice [
-      | inl s ↦ rw (s.count, s.memory) (stays (rw (s.count, s.memory) at s))
-      | inr s ↦ rw s.count (changes after (rw s.count at s) long')
-    ]
-
--- After the last register.
-pub best_end_lem : (table : Table) (t : List ℕ) (i best : ℕ) (work : List ℕ) → BestIs table t i best work
-    → i ≤ table.head.registers → table.head.registers ≤ i → BestIs table t table.head.registers best work
-best_end_lem table t i best work half h l = let last : i ≡ table.head.registers = omega arith in rw last at half
+  -- and else the better of the best and what is found there is the best then.
+  pub best_turn : (after : Option (List ℕ)) → ImproveIs table t (Some (register i)) best after → BestIs table t (i + 1) after
+  best_turn after improve = elim improve.better [
+    | inl s ↦ rw s.is (least_stays table t (register i) best half improve.found improve.find s.why)
+    | inr s ↦
+        let (j, k, hit, same) = improve.find.some s.list s.was in
+        let least = least_found table t (register i) best half j k hit (rw same at s.why) in
+        record { none = λ q. absurd (cc (s.is)); some = λ ks q. let here : s.list ≡ ks = cc (s.is) in rw (← here, same) least }
+  ]

@@ -16,7 +16,7 @@ use Rattle.convention.proofs.Shortlex.{not_after_snoc}
 use Rattle.convention.specs.Scanned.{Sooner}
 use Rattle.convention.proofs.Numbered.{numbered_decides}
 use Rattle.convention.proofs.Exploring.{leads, earliest, sooner_before, path_short}
-use Rattle.judging.specs.declared.steps.Watch.{Watch}
+use Rattle.judging.specs.Watched.{Watch}
 use Rattle.judging.specs.Watched.{watched_steps, watched, nodes, scan, Hit, FirstHit, NoHit, hit_list}
 use Rattle.judging.proofs.Watched.{EndsFaulty, watched_scanned, watched_tree, nodes_few}
 

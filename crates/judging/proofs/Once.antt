@@ -23,8 +23,8 @@ use Rattle.convention.proofs.Runs.{either}
 use Rattle.convention.proofs.Leading.{leads_below}
 use Rattle.walking.proofs.Given.{Walking, begin_walking, step_walking}
 use Rattle.certifying.specs.Certified.{own_fault, by_itself, Gives, NeverTwice}
-use Rattle.judging.specs.declared.steps.Watch.{Watch}
-use Rattle.judging.specs.declared.steps.Watch.TheVariants.{Register, Nothing}
+use Rattle.judging.specs.Watched.{Watch}
+use Rattle.std.specs.Prelude.{Some, None}
 use Rattle.judging.specs.Watched.{gives_watched, watched_fault, watched}
 use Rattle.judging.proofs.Runs.{run_in}
 use Rattle.judging.proofs.Watched.{node_at, node_fault_lem, none_among, step_tied, EndsFaulty}
@@ -35,7 +35,7 @@ unfolding watched_fault
 own_clean h shape x again e = (or_zero (unless (not again) 2) _ e).1
 
 -- A transition that gives what is watched gives that register.
-gives_run : (x : Transition) (r : Reg) → gives_watched x (Register r) ≡ true → Gives x r.0
+gives_run : (x : Transition) (r : Reg) → gives_watched x (Some r) ≡ true → Gives x r.0
 unfolding gives_watched
 gives_run x r e =
     let (form, covered) = (and-eq-true_iff _ _).0 e in
@@ -56,15 +56,15 @@ module _ (limit : ℕ) (table : Table) (t : List ℕ) (read : TableRead limit ta
 
   -- A list without a fault by itself at any step leads there where nothing is watched.
   own_leads : (s : ByTable) (ks : List ℕ) → Walking table s → KindsBelow table.head.kinds ks → fault_from (by_itself table t) s ks ≡ 0
-      → Leads (watched table t Nothing) (node_at Nothing s) ks (node_at Nothing (state_from (by_itself table t) s ks))
+      → Leads (watched table t None) (node_at None s) ks (node_at None (state_from (by_itself table t) s ks))
   unfolding Leads KindsBelow fault_from state_from watched_fault
   own_leads s [] w known e = refl
   own_leads s (k ∷ ks) w known e =
       let both = or_zero _ _ e in
       let later = own_leads ((by_table table t).after s k) ks (step_walking limit table t read s k w known.0) known.1 both.1 in
-      (known.0, eq-eqb _ 0 (node_fault_lem table t Nothing s k ∙ both.0), rw (step_tied limit table t read s w k known.0 Nothing) later)
+      (known.0, eq-eqb _ 0 (node_fault_lem table t None s k ∙ both.0), rw (step_tied limit table t read s w k known.0 None) later)
 
-  module _ (r : Reg) (once : NeverTwice table t r.0) (ks : List ℕ) (k : ℕ) (f : EndsFaulty table t (Register r) ks k) where
+  module _ (r : Reg) (once : NeverTwice table t r.0) (ks : List ℕ) (k : ℕ) (f : EndsFaulty table t (Some r) ks k) where
     abbrev s : ByTable
     s = state_from (by_itself table t) walk_begin ks
 
@@ -72,24 +72,24 @@ module _ (limit : ℕ) (table : Table) (t : List ℕ) (read : TableRead limit ta
     x = transition table t s.state k
 
     known : KindsBelow table.head.kinds ks
-    known = leads_below (watched table t (Register r)) 0 ks f.node f.leads
+    known = leads_below (watched table t (Some r)) 0 ks f.node f.leads
 
-    along : (fault_from (by_itself table t) walk_begin ks ≡ 0) × (node_at (Register r) s ≡ f.node)
-    along = own_along (Register r) walk_begin ks f.node (begin_walking limit table t read) (rw (none_among (Register r)) f.leads)
+    along : (fault_from (by_itself table t) walk_begin ks ≡ 0) × (node_at (Some r) s ≡ f.node)
+    along = own_along (Some r) walk_begin ks f.node (begin_walking limit table t read) (rw (none_among (Some r)) f.leads)
 
-    new : get_or s.given r.0 false && gives_watched x (Register r) ≡ false
+    new : get_or s.given r.0 false && gives_watched x (Some r) ≡ false
     unfolding NeverTwice
-    new = elim (either (get_or s.given r.0 false && gives_watched x (Register r))) [
+    new = elim (either (get_or s.given r.0 false && gives_watched x (Some r))) [
       | inl y ↦
           let (given, gives) = (and-eq-true_iff _ _).0 y in
           absurd (once ks k known f.below along.0 given (gives_run x r gives))
       | inr n ↦ n
     ]
 
-    pub once_ends : EndsFaulty table t Nothing ks k
+    pub once_ends : EndsFaulty table t None ks k
     once_ends = record {
-      node = node_at Nothing s;
+      node = node_at None s;
       leads = own_leads walk_begin ks (begin_walking limit table t read) known along.0;
       below = f.below;
-      faulty = rw (node_fault_lem table t Nothing s k) (rw (← along.1, node_fault_lem table t (Register r) s k, new) at f.faulty);
+      faulty = rw (node_fault_lem table t None s k) (rw (← along.1, node_fault_lem table t (Some r) s k, new) at f.faulty);
     }

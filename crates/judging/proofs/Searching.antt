@@ -2,189 +2,177 @@
 use Prim.Native.Nat.{ℕ, suc, ◌+◌, ◌≤◌, ◌<◌}
 use native.Mathlib.Numerals.{add-one}
 use native.Mathlib.Omega.{arith}
-use mathlib.Core.Path.{◌≡◌, refl, sym, ◌∙◌}
+use mathlib.Core.Path.{◌≡◌, sym, ap, subst, ◌∙◌}
 use mathlib.Core.List.{List}
 use lib.ListN.{length}
+use Rattle.std.specs.Prelude.{Option, Some, None, Result, Ok, Err}
+use Rattle.std.proofs.lemmas.List.{length-map}
 use borrow.Author.Count.{below_more}
 use borrow.Author.Tests.{eq-eqb}
-use Rattle.convention.specs.declared.Shape.{Shape}
 use Rattle.convention.specs.declared.Table.{Table}
-use Rattle.convention.specs.declared.Transition.{Transition}
+use Rattle.convention.specs.declared.Fault.{Fault}
+use Rattle.convention.specs.Results.{fault_number, fault_of}
+use Rattle.convention.specs.Promised.{TableRead}
+use Rattle.convention.proofs.Results.{fault_some}
 use Rattle.convention.specs.Numbers.{state_limit}
-use Rattle.convention.specs.Tables.{table_kind, transition}
-use Rattle.convention.specs.Explored.{Automaton, meet, met_from, met, met_up_to}
+use Rattle.convention.specs.Explored.{Automaton, Entry, meet, met_from, met, met_up_to}
 use Rattle.convention.proofs.Numbering.{whole, up_to_all, up_to_there, up_to_grows, up_to_node}
 use Rattle.convention.proofs.Numbered.{entries_below}
 use Rattle.table.specs.Within.{InTable}
-use Rattle.walking.specs.TableSteps.{FaultAsks}
-use Rattle.walking.proofs.Steps.{fault_asks}
-use Rattle.exploring.specs.Memory.{pair_kinds}
-use Rattle.exploring.specs.Stored.{MeetAsks, MeetIs, entry_of, count_after, EntryAsks, EntryIs}
-use Rattle.exploring.proofs.Meeting.{meet_asks, entry_asks}
-use Rattle.judging.specs.declared.steps.Watch.{Watch}
-use Rattle.judging.specs.Watched.{node_state, node_flag, watched_steps, watched, nodes, scan, node_fault, node_after, Hit}
-use Rattle.judging.specs.Searched.{WatchedStepIs, ListsStay, ThroughAsks, node_here, GoingThrough, ThroughIs, SearchAsks, Searching, SearchIs}
-use Rattle.judging.proofs.Watched.{watched_tree, watched_bounded, after_below}
+use Rattle.walking.specs.declared.step.Step.{Step}
+use Rattle.walking.specs.Steps.{StepOf}
+use Rattle.exploring.specs.declared.Entry.{Entry as Met}
+use Rattle.exploring.specs.Stored.{read_as, entry_of, MeetAsks, MeetIs, NodeIs}
+use Rattle.judging.specs.declared.search.Found.{Found}
+use Rattle.judging.specs.Limits.{node_limit}
+use Rattle.judging.specs.Watched.{Watch, node_state, node_flag, watched_steps, watched, nodes, scan, node_fault, node_after, Hit, FirstHit}
+use Rattle.judging.specs.Searched.{WatchedStepIs, HoldsWatched, ThroughAsks, node_here, GoingThrough, FirstFault, ThroughIs, SearchAsks, Searching, HoldsUpTo, SearchIs}
+use Rattle.judging.proofs.Watched.{watched_tree, watched_bounded, after_below, nodes_few}
 use Rattle.judging.proofs.Stepping.{step_fault, step_after}
+
+-- As many entries are kept as the walk has met.
+pub held_long : (table : Table) (t : List ℕ) (watch : Watch) (l : List (Entry (watched table t watch))) (kept : List Met) → HoldsWatched table t watch l kept
+    → length kept ≡ length l
+held_long table t watch l kept holds = sym (length-map kept (read_as (watched_steps table t watch))) ∙ ap length holds
 
 -- ---- the kinds from entry i
 
-module _ (table : Table) (t : List ℕ) (watch : Watch) (i node first : ℕ) (before : List ℕ) (asks : ThroughAsks table t watch i node first before) where
+module _ (table : Table) (t : List ℕ) (watch : Watch) (read : TableRead state_limit table t) (i node : ℕ) (before : List Met) (asks : ThroughAsks table t watch i node before) where
   abbrev walk : Automaton
   walk = watched table t watch
 
   -- There is entry i.
   there : i < length (met walk i)
-  there = omega (arith, asks.inside, asks.holds.counted)
+  there = omega (arith, asks.inside, held_long table t watch _ before asks.holds)
 
   -- Its node is one of the table's.
   pub through_inside : node < nodes table
   through_inside =
-      let bounded = watched_bounded state_limit table t asks.read watch in
+      let bounded = watched_bounded state_limit table t read watch in
       rw asks.here (entries_below (watched_steps table t watch) (nodes table) bounded (met walk i) (watched_tree table t watch i) i there)
 
   pub through_state : node_state node < state_limit
-  through_state = omega (arith, through_inside, asks.read.states)
+  through_state = omega (arith, through_inside, read.states)
 
   -- Before the first kind.
-  pub through_begin : GoingThrough table t watch i before 0 first before
+  pub through_begin : GoingThrough table t watch i 0 before
   unfolding met_from
-  through_begin = record { within = omega arith; clean = λ q h. absurd (omega arith); holds = asks.holds; lists = refl; long = refl }
+  through_begin = record { clean = λ q h. absurd (omega arith); holds = asks.holds }
 
-  module _ (k count : ℕ) (work : List ℕ) (through : GoingThrough table t watch i before k count work) where
-    -- After the last kind.
-    pub through_end : table.head.kinds ≤ k → ThroughIs table t watch i before k count work
-    through_end h = record { through = through; faulty = λ l. absurd (omega arith) }
+  module _ (k : ℕ) (kept : List Met) (through : GoingThrough table t watch i k kept) (h : k < table.head.kinds) where
+    -- The table has it.
+    pub through_in : InTable table (node_state node) k
+    through_in = record { state = omega (arith, through_inside); kind = h }
 
-    module _ (h : k < table.head.kinds) where
-      -- The table has it.
-      pub through_in : InTable table (node_state node) k
-      through_in = record { state = omega (arith, through_inside); kind = h }
+    module _ (step : Step) (of : StepOf table t (node_state node) k step) where
+      module _ (r : Result ℕ Fault) (is : WatchedStepIs step watch (node_flag node) r) where
+        faults : fault_of r ≡ node_fault table t watch (node_here table t watch i) k
+        faults = rw (← asks.here) (step_fault table t node k step of watch r is)
 
-      pub through_kind : k < 8
-      through_kind = omega (arith, asks.read.head.kinds)
+        -- It is faulty.
+        pub through_hit : (fault : Fault) → r ≡ Err fault → ThroughIs table t watch i (Some k) kept
+        through_hit fault e =
+            let says : fault_of r ≡ fault_number fault = ap fault_of e in
+            let some : 0 < node_fault table t watch (node_here table t watch i) k = omega (arith, faults, says, fault_some fault) in
+            let first : FirstFault table t watch i k kept = record { below = h; through = through; faulty = some } in
+            record { some = λ q e. let same : k ≡ q = cc in rw same at first; none = λ e. absurd (cc) }
 
-      module _ (x : Transition) (ex : x ≡ transition table t (node_state node) k) (shape : Shape) (es : shape ≡ table_kind table k) where
-        pub through_asks : FaultAsks table.head shape x
-        through_asks = fault_asks table t (node_state node) k asks.read through_in shape x es ex
+        module _ (next : ℕ) (e : r ≡ Ok next) where
+          leads : next ≡ node_after table t watch node k
+          leads = step_after table t node k step of watch r is next e
 
-        module _ (fault next : ℕ) (step : WatchedStepIs table.head shape x watch (node_flag node) fault next) where
-          faults : fault ≡ node_fault table t watch (node_here table t watch i) k
-          faults = rw (← asks.here) (step_fault table t node k x ex shape es watch fault next step)
+          -- It is not, and where it leads can be met.
+          pub through_meets : MeetAsks node_limit kept next i k
+          through_meets = record {
+            known =
+                let inside : next < nodes table = rw leads (after_below state_limit table t read watch node k through_inside h) in
+                omega (arith, read.states);
+            from = omega (arith, up_to_there walk i there k, held_long table t watch _ kept through.holds);
+            small = omega (arith, read.head.kinds);
+          }
 
-          -- It is faulty.
-          pub through_hit : (fault ≡ 0 → ⊥) → ThroughIs table t watch i before k count work
-          through_hit nz = record { through = through; faulty = λ _. rw (← faults) (omega (arith, nz)) }
+          clean_here : node_fault table t watch (node_here table t watch i) k ≡ 0
+          clean_here = sym faults ∙ ap fault_of e
 
-          module _ (z : fault ≡ 0) where
-            leads : next ≡ node_after table t watch node k
-            leads = step_after table t node k x ex shape es watch fault next step
+          grown : met_up_to walk i (suc k) ≡ meet walk (met_up_to walk i k) (entry_of (watched_steps table t watch) next i k)
+          unfolding met_from
+          grown = rw (eq-eqb (node_fault table t watch (node_here table t watch i) k) 0 clean_here, met_from, leads, asks.here)
 
-            -- It is not, and where it leads can be met.
-            pub through_meets : MeetAsks (nodes table) work count next i k
-            through_meets =
-                let inside : next < nodes table = rw leads (after_below state_limit table t asks.read watch node k through_inside h) in
-                let small : k < pair_kinds = omega (arith, asks.read.head.kinds) in
-                let from : i < count = omega (arith, up_to_there walk i there k, through.holds.counted) in
-                meet_asks (watched_steps table t watch) (nodes table) _ count work through.holds next i k inside from small
-
-            clean_here : node_fault table t watch (node_here table t watch i) k ≡ 0
-            clean_here = sym faults ∙ z
-
-            grown : met_up_to walk i (suc k) ≡ meet walk (met_up_to walk i k) (entry_of (watched_steps table t watch) next i k)
-            unfolding met_from
-            grown = rw (eq-eqb (node_fault table t watch (node_here table t watch i) k) 0 clean_here, met_from, leads, asks.here)
-
-            -- One more kind gone through.
-            pub through_turn : (number more : ℕ) (after : List ℕ) → MeetIs (nodes table) work count next i k number after → more ≡ count_after count number
-                → length after ≡ length work → GoingThrough table t watch i before (k + 1) more after
-            through_turn number more after is e long = record {
-              within = omega arith;
-              clean = below_more (λ q. node_fault table t watch (node_here table t watch i) q ≡ 0) k through.clean clean_here;
-              holds = rw (add-one, grown, e) (is.meets (watched_steps table t watch) (met_up_to walk i k) through.holds);
-              lists = is.others ∙ through.lists;
-              long = long ∙ through.long;
-            }
+          -- One more kind gone through.
+          pub through_turn : (number : ℕ) (after : List Met) → MeetIs kept next i k number after → GoingThrough table t watch i (k + 1) after
+          through_turn number after meets = record {
+            clean = below_more (λ q. node_fault table t watch (node_here table t watch i) q ≡ 0) k through.clean clean_here;
+            holds = rw (add-one, grown, meets.meets (watched_steps table t watch), through.holds);
+          }
 
 -- ---- the entries
 
-module _ (table : Table) (t : List ℕ) (watch : Watch) (before : List ℕ) (asks : SearchAsks table t watch before) where
-  -- Before the first entry.
-  pub search_begin : Searching table t watch before 0 1 before
-  search_begin = record { within = omega arith; clean = λ j q h. absurd (omega arith); holds = asks.holds; lists = refl; long = refl }
+module _ (table : Table) (t : List ℕ) (watch : Watch) (read : TableRead state_limit table t) (before : List Met) (asks : SearchAsks table t watch before) where
+  -- After as many entries as there are nodes there are no more.
+  pub search_end : (i : ℕ) (kept : List Met) → Searching table t watch i kept → nodes table ≤ i → SearchIs table t watch None kept
+  search_end i kept searching h = record {
+    hit = λ f e. absurd (cc);
+    holds = λ f e. absurd (cc);
+    none = λ _ j q hit. searching.clean j q (omega (arith, hit.inside, nodes_few state_limit table t read watch (nodes table))) hit;
+  }
 
-  module _ (i count : ℕ) (work : List ℕ) (searching : Searching table t watch before i count work) where
-    -- After the last entry.
-    pub search_end : count ≤ i → SearchIs table t watch before 0 table.head.kinds work
-    search_end h =
-        let done : length (met (watched table t watch) i) ≤ i = omega (arith, searching.holds.counted) in
-        let inside : i ≤ nodes table = omega (arith, searching.within, searching.holds.few) in
-        let all : scan table t watch ≡ met (watched table t watch) i = whole (watched table t watch) i (nodes table) done inside in
+  module _ (i : ℕ) (kept : List Met) (searching : Searching table t watch i kept) (inside : i < nodes table) (r : Option ℕ) (is : NodeIs kept i r) where
+    -- There is no entry i.
+    pub search_none : r ≡ None → SearchIs table t watch None kept
+    search_none e =
+        let done : length (met (watched table t watch) i) ≤ i = omega (arith, is.none e, held_long table t watch _ kept searching.holds) in
+        let all : scan table t watch ≡ met (watched table t watch) i = whole (watched table t watch) i (nodes table) done (omega arith) in
         record {
-          within = omega arith;
-          hit = λ l. absurd (omega arith);
+          hit = λ f e. absurd (cc);
+          holds = λ f e. absurd (cc);
           none = λ _ j q hit. searching.clean j q (omega (arith, rw all at hit.inside)) hit;
-          holds = λ l. absurd (omega arith);
-          lists = searching.lists;
         }
 
-    module _ (h : i < count) where
-      -- The next entry can be read, and gone through.
-      pub search_reads : EntryAsks (nodes table) work i
-      search_reads = entry_asks (watched_steps table t watch) (nodes table) _ count work searching.holds i h
+    module _ (node : ℕ) (e : r ≡ Some node) where
+      there_next : i < length (met (watched table t watch) i)
+      there_next = omega (arith, (is.some node e).0, held_long table t watch _ kept searching.holds)
 
-      pub search_through : (node : ℕ) → EntryIs (nodes table) work i node → ThroughAsks table t watch i node count work
-      search_through node e = record {
-        read = asks.read;
-        below = asks.below;
+      -- It can be gone through.
+      pub search_through : ThroughAsks table t watch i node kept
+      search_through = record {
         holds = searching.holds;
-        inside = h;
-        here = e.is (watched_steps table t watch) _ count searching.holds h;
+        inside = (is.some node e).0;
+        here = (is.some node e).1 (watched_steps table t watch) ∙ rw searching.holds;
       }
 
-      there_next : i < length (met (watched table t watch) i)
-      there_next = omega (arith, searching.holds.counted)
+      -- The kinds below k do not hit.
+      lower : (k : ℕ) (after : List Met) → GoingThrough table t watch i k after → (q : ℕ) → q < k → Hit table t watch i q → ⊥
+      lower k after gone q l hit = omega (arith, gone.clean q l, rw (up_to_node (watched table t watch) i there_next (nodes table) inside) at hit.faulty)
 
-      inside : i < nodes table
-      inside = omega (arith, searching.holds.few)
-
-      module _ (k result : ℕ) (after : List ℕ) (gone : ThroughIs table t watch i work k result after) where
-        -- The kinds below k do not hit.
-        lower : (q : ℕ) → q < k → Hit table t watch i q → ⊥
-        lower q l hit = omega (arith, gone.through.clean q l, rw (up_to_node (watched table t watch) i there_next (nodes table) inside) at hit.faulty)
-
-        lists_stay : ListsStay table before after
-        lists_stay = gone.through.lists ∙ searching.lists
-
+      module _ (gone : Option ℕ) (after : List Met) (through : ThroughIs table t watch i gone after) where
         -- Kind k hits.
-        pub search_hit : k < table.head.kinds → SearchIs table t watch before i k after
-        search_hit l =
-            let grows = up_to_grows (watched table t watch) i there_next k (nodes table) (omega arith) inside in
-            record {
-              within = omega arith;
-              hit = λ _. record {
-                hit = record {
-                  inside = omega (arith, up_to_there (watched table t watch) i there_next k, grows.longer);
-                  below = l;
-                  faulty = rw (up_to_node (watched table t watch) i there_next (nodes table) inside) (gone.faulty l);
-                };
-                earlier = searching.clean;
-                lower = lower;
+        pub search_hit : (k : ℕ) → gone ≡ Some k → SearchIs table t watch (Some (record { entry = i; kind = k })) after
+        search_hit k g =
+            let first = through.some k g in
+            let grows = up_to_grows (watched table t watch) i there_next k (nodes table) (omega (arith, first.below)) inside in
+            let here : FirstHit table t watch i k = record {
+              hit = record {
+                inside = omega (arith, up_to_there (watched table t watch) i there_next k, grows.longer);
+                below = first.below;
+                faulty = rw (up_to_node (watched table t watch) i there_next (nodes table) inside) first.faulty;
               };
-              none = λ g. absurd (omega arith);
-              holds = λ _. record { count = result; holds = gone.through.holds; there = there_next };
-              lists = lists_stay;
+              earlier = searching.clean;
+              lower = lower k after first.through;
+            } in
+            let held : HoldsUpTo table t watch i k after = record { holds = first.through.holds; there = there_next } in
+            record {
+              hit = λ f q. let same : record { entry = i; kind = k } ≡ f = cc in subst (λ (f : Found). FirstHit table t watch f.entry f.kind) same here;
+              holds = λ f q. let same : record { entry = i; kind = k } ≡ f = cc in subst (λ (f : Found). HoldsUpTo table t watch f.entry f.kind after) same held;
+              none = λ q. absurd (cc);
             }
 
         -- Nothing hits at entry i.
-        pub search_turn : table.head.kinds ≤ k → Searching table t watch before (i + 1) result after
-        search_turn l =
-            let last : k ≡ table.head.kinds = omega (arith, gone.through.within) in
+        pub search_turn : gone ≡ None → Searching table t watch (i + 1) after
+        search_turn g =
+            let all = through.none g in
             record {
-              within = omega (arith, up_to_there (watched table t watch) i there_next k, gone.through.holds.counted);
               clean = λ j q o.
-                  below_more (λ j. (q : ℕ) → Hit table t watch j q → ⊥) i (λ j o q. searching.clean j q o) (λ q hit. lower q (omega (arith, hit.below)) hit) j o q;
-              holds = rw (add-one, up_to_all (watched table t watch) i there_next) (rw last at gone.through.holds);
-              lists = lists_stay;
-              long = gone.through.long ∙ searching.long;
+                  below_more (λ j. (q : ℕ) → Hit table t watch j q → ⊥) i (λ j o q. searching.clean j q o)
+                  (λ q hit. lower table.head.kinds after all q hit.below hit) j o q;
+              holds = rw (add-one, up_to_all (watched table t watch) i there_next) all.holds;
             }

@@ -1,9 +1,9 @@
 -- One step of the watched walk, as the code takes it: by the fault of a step before which nothing was given, and from what the reader promises.
 use Prim.Native.Nat.{ℕ, ◌+◌, ◌≤◌, ◌<◌}
 use native.Mathlib.Omega.{arith}
-use mathlib.Core.Path.{◌≡◌, ◌∙◌}
+use mathlib.Core.Path.{◌≡◌, refl, ◌∙◌}
 use mathlib.Core.Logic.{inl, inr}
-use mathlib.Core.Bool.{Bool, true, false, not, not-not, ◌&&◌, ◌||◌}
+use mathlib.Core.Bool.{Bool, true, false, not, not-not, ◌&&◌}
 use mathlib.Core.List.{List}
 use lib.Dec.{eqb}
 use lib.Bits.{bit_and, and_zero_r}
@@ -14,32 +14,21 @@ use Rattle.convention.specs.declared.Reg.{Reg}
 use Rattle.convention.specs.declared.Shape.{Shape}
 use Rattle.convention.specs.declared.Table.{Table}
 use Rattle.convention.specs.declared.Transition.{Transition}
-use Rattle.convention.specs.Tables.{table_kind, transition}
+use Rattle.convention.specs.declared.Fault.{Fault}
+use Rattle.convention.specs.Results.{fault_of}
 use Rattle.convention.specs.Rules.{free_run, no_registers}
 use Rattle.convention.specs.Walked.{table_fault}
 use Rattle.convention.proofs.Runs.{either, none_taken}
 use Rattle.stepping.specs.Sets.{set_of, run_bits}
 use Rattle.stepping.proofs.Sets.{set_none, free_set}
+use Rattle.walking.specs.declared.step.Step.{Step}
 use Rattle.walking.specs.TableSteps.{given_after}
-use Rattle.judging.specs.declared.steps.Watch.{Watch}
-use Rattle.judging.specs.declared.steps.Watch.TheVariants.{Register, Nothing}
-use Rattle.judging.specs.Watched.{node_state, node_flag, node_of, covers, watched_bits, gives_watched, watched_fault, node_fault, node_after, WatchedBelow}
+use Rattle.walking.specs.Steps.{StepOf}
+use Rattle.judging.specs.Watched.{Watch}
+use Rattle.std.specs.Prelude.{Some, None, Result, Ok}
+use Rattle.judging.specs.Watched.{node_state, node_flag, covers, watched_bits, gives_watched, watched_fault, node_fault, node_after}
 use Rattle.judging.specs.Searched.{WatchedStepIs}
 use Rattle.judging.proofs.Runs.{mark_at}
-
--- The number of what is watched, by what that is.
-module _ (watch : Watch) where
-  pub bits_within : WatchedBelow 16 watch → (r : Reg) → watch ≡ Register r → r.0 + 1 ≤ 16
-  unfolding WatchedBelow
-  bits_within below r e = let h : r.0 < 16 = rw e at below in omega arith
-
-  pub bits_register : (r : Reg) (bits : ℕ) → watch ≡ Register r → bits ≡ run_bits r.0 1 → bits ≡ watched_bits watch
-  unfolding watched_bits
-  bits_register r bits e q = rw e q
-
-  pub bits_nothing : watch ≡ Nothing → 0 ≡ watched_bits watch
-  unfolding watched_bits
-  bits_nothing e = rw e
 
 -- What is watched is given exactly where the registers that a transition gives share a bit with it.
 one_free : (taken : List Bool) (r : ℕ) → free_run taken r 1 ≡ not (get_or taken r false)
@@ -53,13 +42,13 @@ module _ (x : Transition) (run : x.form ≡ 1 → x.a + x.b ≤ 16) where
     | inr f ↦ rw f (none_taken 16 r.0)
   ]
 
-  pub gives_is : (watch : Watch) (bits gives : ℕ) → WatchedBelow 16 watch → bits ≡ watched_bits watch → set_of 16 gives ≡ given_after x (set_of 16 0)
+  pub gives_is : (watch : Watch) (bits gives : ℕ) → ((r : Reg) → watch ≡ Some r → r.0 < 16) → bits ≡ watched_bits watch → set_of 16 gives ≡ given_after x (set_of 16 0)
       → not (eqb (bit_and gives bits) 0) ≡ gives_watched x watch
-  unfolding WatchedBelow watched_bits gives_watched
-  gives_is Nothing bits gives below eb e = rw (eb, and_zero_r gives)
-  gives_is (Register r) bits gives below eb e =
+  unfolding watched_bits gives_watched
+  gives_is None bits gives below eb e = rw (eb, and_zero_r gives)
+  gives_is (Some r) bits gives below eb e =
       let free : eqb (bit_and gives (run_bits r.0 1)) 0 ≡ not (eqb x.form 1 && covers x.a x.b r)
-      = free_set 16 gives r.0 1 (omega arith) ∙ (one_free (set_of 16 gives) r.0 ∙ rw (e, set_none 16, new r)) in
+      = free_set 16 gives r.0 1 (omega (arith, below r refl)) ∙ (one_free (set_of 16 gives) r.0 ∙ rw (e, set_none 16, new r)) in
       rw (eb, free) (not-not (eqb x.form 1 && covers x.a x.b r))
 
 -- What is watched is fault 2 where it is given once more; any other fault is there where nothing was given, too.
@@ -72,18 +61,13 @@ module _ (h : Head) (shape : Shape) (x : Transition) (again : Bool) where
   unfolding watched_fault
   fault_else fault e q = rw (e, ← set_none 16) q
 
--- The step that a transition makes.
-pub step_is : (h : Head) (shape : Shape) (x : Transition) (watch : Watch) (given here : Bool) (fault next : ℕ) → here ≡ gives_watched x watch
-    → fault ≡ watched_fault h shape x (given && here) → next ≡ node_of x.next (given || here) → WatchedStepIs h shape x watch given fault next
-step_is h shape x watch given here fault next eg ef en = record { faults = ef ∙ rw eg; after = en ∙ rw eg }
-
--- One of a table, from a node: its fault, and the node that it leads to.
-module _ (table : Table) (t : List ℕ) (node k : ℕ) (x : Transition) (ex : x ≡ transition table t (node_state node) k) (shape : Shape) (es : shape ≡ table_kind table k)
-    (watch : Watch) (fault next : ℕ) (step : WatchedStepIs table.head shape x watch (node_flag node) fault next) where
-  pub step_fault : fault ≡ node_fault table t watch node k
+-- One of a table, from a node: its fault, or the node that it leads to.
+module _ (table : Table) (t : List ℕ) (node k : ℕ) (step : Step) (of : StepOf table t (node_state node) k step)
+    (watch : Watch) (r : Result ℕ Fault) (is : WatchedStepIs step watch (node_flag node) r) where
+  pub step_fault : fault_of r ≡ node_fault table t watch node k
   unfolding node_fault
-  step_fault = step.faults ∙ rw (es, ex)
+  step_fault = is.faults ∙ rw (of.head, of.shape, of.x)
 
-  pub step_after : next ≡ node_after table t watch node k
+  pub step_after : (next : ℕ) → r ≡ Ok next → next ≡ node_after table t watch node k
   unfolding node_after
-  step_after = step.after ∙ rw ex
+  step_after next e = is.after next e ∙ rw of.x

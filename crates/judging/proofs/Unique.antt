@@ -9,8 +9,8 @@ use lib.Dec.{lit<}
 use lib.ListN.{length, take, take-append-drop}
 use lib.Seq.{length-take-le}
 use borrow.Author.Tests.{leb-true, le-leb}
-use Rattle.convention.specs.declared.JudgingAnswer.{JudgingAnswer}
-use Rattle.convention.specs.declared.JudgingAnswer.TheVariants.{Clean, Fault}
+use Rattle.convention.specs.Answers.{JudgingAnswer}
+use Rattle.convention.specs.Answers.{Clean, Fault}
 use Rattle.convention.specs.Tables.{table_no}
 use Rattle.convention.specs.Judged.{CleanTable, FirstFaulty, judge_room, judge_no, Judges}
 use Rattle.convention.proofs.Numbers.{or_zero, or_on, unless_zero, unless_true}

@@ -16,7 +16,7 @@ use Rattle.convention.specs.Judged.{list_fault, FaultyList, CleanTable, FirstFau
 use Rattle.convention.specs.Promised.{TableRead}
 use Rattle.convention.proofs.Lists.{below_at, below_take}
 use Rattle.convention.proofs.Shortlex.{not_after_trans, not_after_strict}
-use Rattle.judging.specs.declared.steps.Watch.{Watch}
+use Rattle.judging.specs.Watched.{Watch}
 use Rattle.judging.specs.Watched.{Hit, hit_list, WatchedBelow, NoHitBelow, LeastBelow}
 use Rattle.judging.proofs.Fronts.{front_before, front_not_after, stops, stop_faulty}
 use Rattle.judging.proofs.Watched.{EndsFaulty, some_watches, watched_faulty}

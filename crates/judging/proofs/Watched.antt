@@ -32,8 +32,8 @@ use Rattle.convention.proofs.Leading.{leads_unique, leads_below}
 use Rattle.convention.proofs.Scanning.{met_scanned}
 use Rattle.convention.proofs.Numbered.{numbered_decides, Bounded, entries_few}
 use Rattle.walking.proofs.Given.{Walking, begin_walking, step_walking}
-use Rattle.judging.specs.declared.steps.Watch.{Watch}
-use Rattle.judging.specs.declared.steps.Watch.TheVariants.{Register, Nothing}
+use Rattle.judging.specs.Watched.{Watch}
+use Rattle.std.specs.Prelude.{Some, None}
 use Rattle.judging.specs.Watched.{node_of, node_state, node_flag, gives_watched, watched_fault}
 use Rattle.judging.specs.Watched.{node_fault, node_after, watched_steps, watched, nodes, WatchedBelow}
 use Rattle.judging.proofs.Runs.{free_watched, in_run, mark_at}
@@ -50,15 +50,15 @@ all_free first count = elim (either (free_run no_registers first count)) [
 
 -- Whether what is watched is among the given registers.
 abbrev pub among_given : List Bool → Watch → Bool
-among_given given (Register r) = get_or given r.0 false
-among_given given Nothing = false
+among_given given (Some r) = get_or given r.0 false
+among_given given None = false
 
 module _ (h : Head) (shape : Shape) (x : Transition) (given : List Bool) where
   -- A step without a fault gives nothing that is watched once more, and has none where nothing was given,
   gives_new : (watch : Watch) → table_fault h shape x given ≡ 0 → among_given given watch && gives_watched x watch ≡ false
   unfolding table_fault gives_watched
-  gives_new Nothing e = refl
-  gives_new (Register r) e = elim (either (eqb x.form 1)) [
+  gives_new None e = refl
+  gives_new (Some r) e = elim (either (eqb x.form 1)) [
     | inl f ↦ rw f (free_watched given x.a x.b (unless_zero _ 2 (lit< tt) (or_zero _ _ (rw f at e)).0) r)
     | inr f ↦ rw (f, and-false)
   ]
@@ -85,20 +85,20 @@ module _ (h : Head) (shape : Shape) (x : Transition) (given : List Bool) where
   unfolding table_fault watched_fault gives_watched WatchedBelow
   step_watched within p = elim (either (eqb x.form 1)) [
     | inl f ↦ elim (either (free_run given x.a x.b)) [
-      | inl free ↦ (Nothing, tt, rw (f, all_free x.a x.b) (rw (f, free) at p))
+      | inl free ↦ (None, tt, rw (f, all_free x.a x.b) (rw (f, free) at p))
       | inr taken ↦
           let (r, from, to, was) = free_some given x.a x.b taken in
-          (Register (record { 0 = r }), omega (arith, within (eqb-true _ 1 f)), rw (was, f, in_run _ _ (record { 0 = r }) from to) (lit< tt))
+          (Some (record { 0 = r }), omega (arith, within (eqb-true _ 1 f)), rw (was, f, in_run _ _ (record { 0 = r }) from to) (lit< tt))
     ]
-    | inr f ↦ (Nothing, tt, rw f (rw f at p))
+    | inr f ↦ (None, tt, rw f (rw f at p))
   ]
 
 -- Whether what is watched is among the given afterwards is what the watched walk says.
 given_after_lem : (h : Head) (x : Transition) (s : ByTable) → (x.form ≡ 1 → x.a + x.b ≤ length s.given) → (watch : Watch)
     → among_given s.given watch || gives_watched x watch ≡ among_given (table_after h x s).given watch
 unfolding gives_watched
-given_after_lem h x s within Nothing = refl
-given_after_lem h x s within (Register r) = rw (step_gives h x s) (elim (either (eqb x.form 1)) [
+given_after_lem h x s within None = refl
+given_after_lem h x s within (Some r) = rw (step_gives h x s) (elim (either (eqb x.form 1)) [
   | inl f ↦ rw (f, mark_at s.given x.a x.b r (within (eqb-true _ 1 f)))
   | inr f ↦ rw (f, or-false)
 ])
@@ -142,8 +142,8 @@ node_after_lem h x s within watch = ap (node_of x.next) (given_after_lem h x s w
 
 -- At first nothing that is watched is given.
 pub none_among : (watch : Watch) → among_given no_registers watch ≡ false
-none_among (Register r) = none_taken 16 r.0
-none_among Nothing = refl
+none_among (Some r) = none_taken 16 r.0
+none_among None = refl
 
 -- ---- the two walks
 

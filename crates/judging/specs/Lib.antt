@@ -1,5 +1,5 @@
 pub mod Watched
-pub mod Memory
+pub mod Limits
 pub mod Searched
 pub mod Listed
 pub mod Found

@@ -1,66 +1,38 @@
--- The two lists in the working memory: how one is written, how they are compared, and which is kept.
-use Rattle.std.specs.Prelude.{ℕ, ◌+◌, ◌-◌, ◌≤◌, ◌<◌, ◌≡◌, Bool, true, false, ◌⊎◌, List, [], ◌∷◌, ◌++◌, drop}
-use Rattle.std.proofs.Math.Seq.{slice, paste}
-use Rattle.convention.specs.Orders.{Earlier, Before, NotAfter}
-use Rattle.convention.specs.Explored.{Numbered, numbered, Entry, path}
+-- The lists that are found: how one is written, how two are compared, and which is kept.
+use Rattle.std.specs.Prelude.{ℕ, ◌≡◌, Bool, true, false, ◌⊎◌, List, [], ◌∷◌, ◌++◌, Option, Some}
+use Rattle.convention.specs.Orders.{Before, NotAfter}
+use Rattle.convention.specs.Explored.{Numbered, numbered, path}
 use Rattle.convention.specs.Scanned.{Tree}
-use Rattle.exploring.specs.Stored.{Stored, PathAsks}
-use Rattle.judging.specs.Memory.{found_end, best_end, list_at, SearchRoom}
+use Rattle.exploring.specs.declared.Entry.{Entry as Met}
+use Rattle.exploring.specs.Stored.{entries_of}
 
--- The entries of a tree are held, and room for the path to entry i and one kind more as the list found.
-pub record FoundAsks (nodes : ℕ) (work : List ℕ) (i : ℕ) : Type 0 where
-  pub room : SearchRoom nodes work
-  pub path : PathAsks nodes work i (found_end nodes - 1)
+-- Whatever tree the entries are read as, the list is entry i's path and then kind k.
+pub record FoundIs (l : List Met) (i k : ℕ) (ks : List ℕ) : Type 0 where
+  pub list : (N : Numbered) → Tree (numbered N) (entries_of N l) → ks ≡ path (numbered N) (entries_of N l) i ++ k ∷ []
 
--- Whatever tree is held, entry i's path and then kind k are the list found, of n kinds. The best is untouched.
-pub record FoundIs (nodes : ℕ) (before : List ℕ) (i k n : ℕ) (after : List ℕ) : Type 0 where
-  pub some : 0 < n
-  pub short : n ≤ nodes
-  pub list : (N : Numbered) (l : List (Entry (numbered N))) (count : ℕ) → Stored N nodes l count before → Tree (numbered N) l → i < count
-      → list_at after (found_end nodes) n ≡ path (numbered N) l i ++ k ∷ []
-  pub best : drop (found_end nodes) after ≡ drop (found_end nodes) before
+-- Whether a list is before another.
+pub record CompareIs (ks others : List ℕ) (answer : Bool) : Type 0 where
+  pub yes : answer ≡ true → Before ks others
+  pub no : answer ≡ false → NotAfter others ks
 
--- The list found, of so many kinds, and the best, of so many.
-pub record ListsAsk (nodes : ℕ) (work : List ℕ) (found best : ℕ) : Type 0 where
-  pub room : SearchRoom nodes work
-  pub short : found ≤ nodes
-  pub short_best : best ≤ nodes
-
--- Whether the list found is before the best.
-pub record CompareIs (nodes : ℕ) (work : List ℕ) (found best : ℕ) (answer : Bool) : Type 0 where
-  pub yes : answer ≡ true → Before (list_at work (found_end nodes) found) (list_at work (best_end nodes) best)
-  pub no : answer ≡ false → NotAfter (list_at work (best_end nodes) best) (list_at work (found_end nodes) found)
-
--- Half way: the two lists have the same kinds up to byte `at`, so that the rest decides.
-pub record Comparing (nodes : ℕ) (work : List ℕ) (found best at : ℕ) : Type 0 where
-  pub within : at ≤ found_end nodes
-  pub yes : Earlier (slice at (found_end nodes) work) (slice (at + nodes) (best_end nodes) work)
-      → Before (list_at work (found_end nodes) found) (list_at work (best_end nodes) best)
-  pub no : (slice (at + nodes) (best_end nodes) work ≡ slice at (found_end nodes) work)
-      ⊎ Earlier (slice (at + nodes) (best_end nodes) work) (slice at (found_end nodes) work)
-      → NotAfter (list_at work (best_end nodes) best) (list_at work (found_end nodes) found)
-
--- A list found, of so many kinds, and the memory once it is the best, too.
-pub record KeepAsks (nodes : ℕ) (work : List ℕ) (found : ℕ) : Type 0 where
-  pub room : SearchRoom nodes work
-  pub short : found ≤ nodes
-
-abbrev pub kept : ℕ → List ℕ → ℕ → List ℕ
-kept nodes work found = paste work (best_end nodes - found) (list_at work (found_end nodes) found) found
-
--- The best stays, since no list was found, or none that is before it.
-pub record Stays (nodes : ℕ) (before : List ℕ) (found best n : ℕ) (after : List ℕ) : Type 0 where
-  pub count : n ≡ best
-  pub memory : after ≡ before
-  pub why : (found ≡ 0) ⊎ ((0 < found) × (0 < best) × NotAfter (list_at before (best_end nodes) best) (list_at before (found_end nodes) found))
+-- The best list stays, since none was found, or one that is not before it.
+pub record Stays (found before after : Option (List ℕ)) : Type 0 where
+  pub is : after ≡ before
+  pub why : (ks : List ℕ) → found ≡ Some ks → (others : List ℕ) × (before ≡ Some others) × NotAfter others ks
 
 -- The list found is the best, since there was none, or none that is before it.
-pub record Changes (nodes : ℕ) (before : List ℕ) (found best n : ℕ) (after : List ℕ) : Type 0 where
-  pub some : 0 < found
-  pub count : n ≡ found
-  pub list : list_at after (best_end nodes) found ≡ list_at before (found_end nodes) found
-  pub why : (best ≡ 0) ⊎ ((0 < best) × NotAfter (list_at before (found_end nodes) found) (list_at before (best_end nodes) best))
+pub record Changes (found before after : Option (List ℕ)) : Type 0 where
+  pub list : List ℕ
+  pub was : found ≡ Some list
+  pub is : after ≡ Some list
+  pub why : (others : List ℕ) → before ≡ Some others → NotAfter list others
 
--- The better of the list found and the best, where 0 kinds are none, is the best now, of n kinds.
-pub record BetterIs (nodes : ℕ) (before : List ℕ) (found best n : ℕ) (after : List ℕ) : Type 0 where
-  pub choice : Stays nodes before found best n after ⊎ Changes nodes before found best n after
+-- The better of the list found and the best is the best now.
+abbrev pub Better : (found before after : Option (List ℕ)) → Type 0
+Better found before after = Stays found before after ⊎ Changes found before after
+
+-- The list that is found by entry i and kind k is kept where it is the better.
+pub record KeepIs (l : List Met) (i k : ℕ) (before after : Option (List ℕ)) : Type 0 where
+  pub found : List ℕ
+  pub is : FoundIs l i k found
+  pub better : Better (Some found) before after

@@ -1,79 +1,66 @@
--- What the functions of the search promise one another: which entries the working memory holds, and what was found there.
-use Rattle.std.specs.Prelude.{ℕ, ◌≤◌, ◌<◌, ◌≡◌, Bool, ◌&&◌, ◌||◌, List, length, drop}
-use Rattle.convention.specs.declared.Head.{Head}
-use Rattle.convention.specs.declared.Shape.{Shape}
+-- What the functions of the search promise one another: which entries were met, and what was found there.
+use Rattle.std.specs.Prelude.{ℕ, ◌<◌, ◌≡◌, Bool, ◌&&◌, ◌||◌, List, length, Option, Some, None, Result, Ok}
 use Rattle.convention.specs.declared.Table.{Table}
-use Rattle.convention.specs.declared.Transition.{Transition}
-use Rattle.convention.specs.Numbers.{state_limit}
+use Rattle.convention.specs.declared.Fault.{Fault}
+use Rattle.convention.specs.Results.{fault_of}
 use Rattle.convention.specs.Explored.{Entry, entry, met, met_up_to}
-use Rattle.convention.specs.Promised.{TableRead}
-use Rattle.exploring.specs.Memory.{caller_at}
-use Rattle.exploring.specs.Stored.{Stored}
-use Rattle.judging.specs.declared.steps.Watch.{Watch}
-use Rattle.judging.specs.Watched.{node_of, gives_watched, watched_fault, watched_steps, watched, nodes, node_fault, Hit, FirstHit, NoHit, WatchedBelow}
+use Rattle.walking.specs.declared.step.Step.{Step}
+use Rattle.exploring.specs.declared.Entry.{Entry as Met}
+use Rattle.exploring.specs.Stored.{entries_of}
+use Rattle.judging.specs.declared.search.Found.{Found}
+use Rattle.judging.specs.Watched.{Watch, node_of, gives_watched, watched_fault, watched_steps, watched, node_fault, Hit, FirstHit, NoHit}
 
--- The step that a transition makes for a kind of this shape, where what is watched was given before it or was not: its fault, and the node after it.
-pub record WatchedStepIs (h : Head) (shape : Shape) (x : Transition) (watch : Watch) (given : Bool) (fault next : ℕ) : Type 0 where
-  pub faults : fault ≡ watched_fault h shape x (given && gives_watched x watch)
-  pub after : next ≡ node_of x.next (given || gives_watched x watch)
+-- A step, where what is watched was given before it or was not: its fault, or the node after it.
+pub record WatchedStepIs (step : Step) (watch : Watch) (given : Bool) (r : Result ℕ Fault) : Type 0 where
+  pub faults : fault_of r ≡ watched_fault step.head step.shape step.x (given && gives_watched step.x watch)
+  pub after : (next : ℕ) → r ≡ Ok next → next ≡ node_of step.x.next (given || gives_watched step.x watch)
 
 -- The node of entry i, where the entries below i were gone through.
 abbrev pub node_here : Table → List ℕ → Watch → ℕ → ℕ
 node_here table t watch i = (entry (watched table t watch) (met (watched table t watch) i) i).node
 
--- The memory holds the entries l of the watched walk, which are `count`.
-abbrev pub HoldsWatched : (table : Table) (t : List ℕ) (watch : Watch) (l : List (Entry (watched table t watch))) → ℕ → List ℕ → Type 0
-HoldsWatched table t watch l count work = Stored (watched_steps table t watch) (nodes table) l count work
+-- The entries are those l of the watched walk.
+abbrev pub HoldsWatched : (table : Table) (t : List ℕ) (watch : Watch) (l : List (Entry (watched table t watch))) → List Met → Type 0
+HoldsWatched table t watch l kept = entries_of (watched_steps table t watch) kept ≡ l
 
--- The lists are those of `before`.
-abbrev pub ListsStay : Table → List ℕ → List ℕ → Type 0
-ListsStay table before work = drop (caller_at (nodes table)) work ≡ drop (caller_at (nodes table)) before
-
--- Going through the kinds from there, of a table that was read.
-pub record ThroughAsks (table : Table) (t : List ℕ) (watch : Watch) (i node count : ℕ) (work : List ℕ) : Type 0 where
-  pub read : TableRead state_limit table t
-  pub below : WatchedBelow 16 watch
-  pub holds : HoldsWatched table t watch (met (watched table t watch) i) count work
-  pub inside : i < count
+-- Going through the kinds from there.
+pub record ThroughAsks (table : Table) (t : List ℕ) (watch : Watch) (i node : ℕ) (kept : List Met) : Type 0 where
+  pub holds : HoldsWatched table t watch (met (watched table t watch) i) kept
+  pub inside : i < length kept
   pub here : node ≡ node_here table t watch i
 
 -- The kinds below k were gone through, and none is faulty.
-pub record GoingThrough (table : Table) (t : List ℕ) (watch : Watch) (i : ℕ) (before : List ℕ) (k count : ℕ) (work : List ℕ) : Type 0 where
-  pub within : k ≤ table.head.kinds
+pub record GoingThrough (table : Table) (t : List ℕ) (watch : Watch) (i k : ℕ) (kept : List Met) : Type 0 where
   pub clean : (q : ℕ) → q < k → node_fault table t watch (node_here table t watch i) q ≡ 0
-  pub holds : HoldsWatched table t watch (met_up_to (watched table t watch) i k) count work
-  pub lists : ListsStay table before work
-  pub long : length work ≡ length before
+  pub holds : HoldsWatched table t watch (met_up_to (watched table t watch) i k) kept
 
--- k is the first faulty kind, m where none is.
-pub record ThroughIs (table : Table) (t : List ℕ) (watch : Watch) (i : ℕ) (before : List ℕ) (k count : ℕ) (work : List ℕ) : Type 0 where
-  pub through : GoingThrough table t watch i before k count work
-  pub faulty : k < table.head.kinds → 0 < node_fault table t watch (node_here table t watch i) k
+-- k is the first faulty kind.
+pub record FirstFault (table : Table) (t : List ℕ) (watch : Watch) (i k : ℕ) (kept : List Met) : Type 0 where
+  pub below : k < table.head.kinds
+  pub through : GoingThrough table t watch i k kept
+  pub faulty : 0 < node_fault table t watch (node_here table t watch i) k
 
--- Searching a table that was read, where the memory holds the start alone.
-pub record SearchAsks (table : Table) (t : List ℕ) (watch : Watch) (work : List ℕ) : Type 0 where
-  pub read : TableRead state_limit table t
-  pub below : WatchedBelow 16 watch
-  pub holds : HoldsWatched table t watch (met (watched table t watch) 0) 1 work
+-- The first faulty kind is found, or none is, and all were gone through.
+pub record ThroughIs (table : Table) (t : List ℕ) (watch : Watch) (i : ℕ) (r : Option ℕ) (kept : List Met) : Type 0 where
+  pub some : (k : ℕ) → r ≡ Some k → FirstFault table t watch i k kept
+  pub none : r ≡ None → GoingThrough table t watch i table.head.kinds kept
+
+-- Searching, where the start alone was met.
+pub record SearchAsks (table : Table) (t : List ℕ) (watch : Watch) (kept : List Met) : Type 0 where
+  pub holds : HoldsWatched table t watch (met (watched table t watch) 0) kept
 
 -- The entries below i were gone through, and none hits.
-pub record Searching (table : Table) (t : List ℕ) (watch : Watch) (before : List ℕ) (i count : ℕ) (work : List ℕ) : Type 0 where
-  pub within : i ≤ count
+pub record Searching (table : Table) (t : List ℕ) (watch : Watch) (i : ℕ) (kept : List Met) : Type 0 where
   pub clean : (j q : ℕ) → j < i → Hit table t watch j q → ⊥
-  pub holds : HoldsWatched table t watch (met (watched table t watch) i) count work
-  pub lists : ListsStay table before work
-  pub long : length work ≡ length before
+  pub holds : HoldsWatched table t watch (met (watched table t watch) i) kept
 
--- The memory holds the entries met before entry i and its kind k.
-pub record HoldsUpTo (table : Table) (t : List ℕ) (watch : Watch) (i k : ℕ) (work : List ℕ) : Type 0 where
-  pub count : ℕ
-  pub holds : HoldsWatched table t watch (met_up_to (watched table t watch) i k) count work
+-- The entries are those met before entry i and its kind k.
+pub record HoldsUpTo (table : Table) (t : List ℕ) (watch : Watch) (i k : ℕ) (kept : List Met) : Type 0 where
+  pub holds : HoldsWatched table t watch (met_up_to (watched table t watch) i k) kept
   pub there : i < length (met (watched table t watch) i)
 
--- Entry i and kind k are the first hit; nothing hits where k is m.
-pub record SearchIs (table : Table) (t : List ℕ) (watch : Watch) (before : List ℕ) (i k : ℕ) (work : List ℕ) : Type 0 where
-  pub within : k ≤ table.head.kinds
-  pub hit : k < table.head.kinds → FirstHit table t watch i k
-  pub none : table.head.kinds ≤ k → NoHit table t watch
-  pub holds : k < table.head.kinds → HoldsUpTo table t watch i k work
-  pub lists : ListsStay table before work
+-- The first hit is found, or nothing hits.
+pub record SearchIs (table : Table) (t : List ℕ) (watch : Watch) (r : Option Found) (kept : List Met) : Type 0 where
+  pub hit : (f : Found) → r ≡ Some f → FirstHit table t watch f.entry f.kind
+  pub holds : (f : Found) → r ≡ Some f → HoldsUpTo table t watch f.entry f.kind kept
+  pub none : r ≡ None → NoHit table t watch

@@ -1,7 +1,7 @@
 -- What the search for a faulty list walks. No part of document 01's meaning: proofs/ ties it to the walk by a table.
 -- The last step of a shortest faulty list fails because of one register at most, so nothing is watched, or one register at a time: a node is a state and
 -- whether what is watched was given, and a step that is faulty as far as that tells leads nowhere.
-use Rattle.std.specs.Prelude.{ℕ, ◌+◌, ◌*◌, ◌/◌, ◌%◌, ◌<◌, ◌≡◌, Bool, false, not, cond, ◌&&◌, ◌||◌, List, [], ◌∷◌, ◌++◌, ltb, leb, eqb, length}
+use Rattle.std.specs.Prelude.{ℕ, ◌+◌, ◌*◌, ◌/◌, ◌%◌, ◌<◌, ◌≡◌, Bool, false, not, cond, ◌&&◌, ◌||◌, List, [], ◌∷◌, ◌++◌, ltb, leb, eqb, length, Option, Some, None}
 use Rattle.convention.specs.declared.Head.{Head}
 use Rattle.convention.specs.declared.Reg.{Reg}
 use Rattle.convention.specs.declared.Shape.{Shape}
@@ -14,8 +14,10 @@ use Rattle.convention.specs.Walked.{table_fault}
 use Rattle.convention.specs.Orders.{NotAfter}
 use Rattle.stepping.specs.Sets.{run_bits}
 use Rattle.convention.specs.Explored.{Automaton, Numbered, numbered, Entry, entry, met, path}
-use Rattle.judging.specs.declared.steps.Watch.{Watch}
-use Rattle.judging.specs.declared.steps.Watch.TheVariants.{Register, Nothing}
+
+-- What a walk watches: a register, or nothing.
+abbrev pub Watch : Type 0
+Watch = Option Reg
 
 -- A state and a flag as one number, and the two again.
 abbrev pub node_of : ℕ → Bool → ℕ
@@ -33,13 +35,13 @@ covers first count r = leb first r.0 && ltb r.0 (first + count)
 
 -- What is watched as the number of a set of registers.
 unfoldable pub watched_bits : Watch → ℕ
-watched_bits (Register r) = run_bits r.0 1
-watched_bits Nothing = 0
+watched_bits (Some r) = run_bits r.0 1
+watched_bits None = 0
 
 -- Whether a transition gives what is watched: a register of its run. Where nothing is watched it never does.
 unfoldable pub gives_watched : Transition → Watch → Bool
-gives_watched x (Register r) = eqb x.form 1 && covers x.a x.b r
-gives_watched x Nothing = false
+gives_watched x (Some r) = eqb x.form 1 && covers x.a x.b r
+gives_watched x None = false
 
 -- The fault of a step as far as what is watched tells: 2 where that is given once more, and else that of a step before which nothing was given.
 unfoldable pub watched_fault : Head → Shape → Transition → Bool → ℕ
@@ -92,8 +94,8 @@ hit_list table t watch i k = path (watched table t watch) (scan table t watch) i
 
 -- Nothing is watched, or a register below `up_to`.
 unfoldable pub WatchedBelow : ℕ → Watch → Type 0
-WatchedBelow up_to (Register r) = r.0 < up_to
-WatchedBelow up_to Nothing = Unit {0}
+WatchedBelow up_to (Some r) = r.0 < up_to
+WatchedBelow up_to None = Unit {0}
 
 -- Of the walks that watch nothing, or a register below `up_to`, none hits.
 abbrev pub NoHitBelow : Table → List ℕ → ℕ → Type 0

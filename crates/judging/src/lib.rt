@@ -7,134 +7,87 @@ mod lists;
 mod search;
 mod steps;
 
-ghost use Rattle.std.specs.Prelude.{◌+◌};
+ghost use Rattle.std.specs.Prelude.{Ok};
 ghost use Rattle.convention.specs.Numbers.{state_limit};
+ghost use Rattle.convention.specs.Results.{judging_answer};
 ghost use Rattle.convention.specs.Judged.{Judges};
 ghost use Rattle.certifying.specs.Certified.{OnceBut};
-ghost use Rattle.judging.specs.Watched.{WatchedBelow};
-ghost use Rattle.judging.specs.Found.{FindAsks, FindIs, BestIs, NextAsks, JudgeAsks, JudgeInAsks};
+ghost use Rattle.judging.specs.Found.{ImproveIs, BestIs, JudgeAsks};
 
-use convention::{JudgingAnswer, Reading, Reg, STATE_LIMIT, Table};
-use lists::WORK_BYTES;
-use steps::Watch;
+use convention::{FaultyList, Refusal, Reg, STATE_LIMIT};
+use exploring::Exploration;
+use lists::List;
+use steps::Watching;
+use table::ReadTable;
 
-// Finds the first faulty list of a watched walk. Answers how many kinds it has, 0 where there is none.
-fn find_list(table: Table, t: &[u8], watch: Watch, work: &mut [u8]) -> usize
-    requires find_asks { FindAsks table t.now work.old }
-    requires watched_below { WatchedBelow 16 watch }
-    ensures { FindIs table t.now watch work.old result work.new }
+// The most nodes of a watched walk, two for each state. A list that is found has no more kinds.
+const NODE_LIMIT: usize = 2 * STATE_LIMIT;
+
+// Makes the first faulty list of a watched walk the best list, where there is none or it is before it.
+fn improve(table: &ReadTable<'_>, watching: Watching, best: &mut Option<List>)
+    ensures { ImproveIs table.now.table table.now.bytes.now watching.watch best.old best.new }
 {
-    let kinds = table.head.kinds;
-    let nodes = 2 * table.states as usize;
-    exploring::start(work, nodes);
-    let found = search::search(table, t, watch, work);
-    if found.kind < kinds {
-        return lists::write_found(work, nodes, found.entry, found.kind);
+    let mut exploration = Exploration::start();
+    if let Some(found) = search::search(table, watching, &mut exploration) {
+        lists::keep_better(best, &exploration, found);
     }
-    0
-}
-
-// Makes the list that is found where nothing is watched the best. Answers how many kinds it has, 0 where there is none.
-fn first_list(table: Table, t: &[u8], work: &mut [u8]) -> usize
-    requires { FindAsks table t.now work.old }
-    ensures { BestIs table t.now 0 result work.new }
-{
-    let nodes = 2 * table.states as usize;
-    let found = find_list(table, t, Watch::Nothing, work);
-    lists::keep(work, nodes, found);
-    found
-}
-
-// Makes the better of the best and the list that is found where register i is watched the best. A register that is not in
-// `twice` is not watched: no list is found there that is before the best. Answers how many kinds it has, 0 where there is none.
-fn next_list(table: Table, t: &[u8], twice: u32, work: &mut [u8], i: u8, best: usize) -> usize
-    requires { NextAsks table t.now twice i best work.old }
-    ensures { BestIs table t.now (i + 1) result work.new }
-{
-    let nodes = 2 * table.states as usize;
-    if stepping::free_run(twice, Reg(i), 1) {
-        return best;
-    }
-    let found = find_list(table, t, Watch::Register(Reg(i)), work);
-    lists::better(work, nodes, found, best)
 }
 
 // The least of the lists that are found where nothing is watched, and where a register is, one at a time; `twice` has each
-// register that may be given twice. Answers how many kinds it has, 0 where there is none.
-fn least_list(table: Table, t: &[u8], twice: u32, work: &mut [u8]) -> usize
-    requires find_asks { FindAsks table t.now work.old }
-    requires once_but { OnceBut table t.now twice }
-    ensures { BestIs table t.now table.head.registers result work.new }
+// register that may be given twice. No other is watched: no list is found there that is before the best.
+fn least_list(table: &ReadTable<'_>, twice: u32) -> Option<List>
+    requires { OnceBut table.now.table table.now.bytes.now twice }
+    ensures { BestIs table.now.table table.now.bytes.now table.now.table.head.registers result }
 {
-    let registers = table.head.registers;
-    let mut best = first_list(table, t, work);
-    let mut i: u8 = 0;
-    while i < registers {
-        best = next_list(table, t, twice, work, i, best);
-        i += 1;
+    let mut best = None;
+    improve(table, Watching { watch: None }, &mut best);
+    for i in 0..table.table.head.registers {
+        if !stepping::free_run(twice, Reg(i), 1) {
+            let watch = Some(Reg(i));
+            improve(table, Watching { watch }, &mut best);
+        }
     }
     best
 }
 
-// The verdict on a table that was read from t, with room for its list, by searching it in lent working memory: the list is
-// written only where it is faulty.
-#[tactic(auto, using(crate::proofs::Answers::judge_clean))]
-fn judge_in(table: Table, t: &[u8], twice: u32, work: &mut [u8], out: &mut [u8]) -> JudgingAnswer
-    requires judge_in_asks { JudgeInAsks table t.now work.old out.old }
-    requires once_but { OnceBut table t.now twice }
-    ensures { Judges state_limit t.now out.old result out.new }
+// The first faulty list of a table, with room for it, by searching the table: the list is written only where there is one.
+#[tactic(auto, using(crate::proofs::Answers::judge_clean, crate::proofs::Answers::judge_room, crate::proofs::Answers::judge_fault))]
+fn judge_by_search(table: &ReadTable<'_>, twice: u32, out: &mut [u8]) -> Option<FaultyList>
+    requires judge_asks { JudgeAsks table.now.table table.now.bytes.now out.old }
+    requires once_but { OnceBut table.now.table table.now.bytes.now twice }
+    ensures { Judges state_limit table.now.bytes.now out.old (judging_answer (Ok result)) out.new }
 {
-    let n = least_list(table, t, twice, work);
-    if n == 0 {
-        return JudgingAnswer::Clean;
-    }
-    let nodes = 2 * table.states as usize;
-    let end = WORK_BYTES * nodes;
-    let at = end - n;
-    fields::copy(&work[at..end], out);
-    let fault = walking::list_fault(table, t, &out[..n]);
-    JudgingAnswer::Fault(fault, n)
+    let best = least_list(table, twice);
+    let Some(list) = &best else {
+        return None;
+    };
+    let kinds = list.as_slice();
+    fields::copy(kinds, out);
+    let fault = walking::list_fault(table, kinds).unwrap_err();
+    Some(FaultyList {
+        fault,
+        kinds: kinds.len(),
+    })
 }
 
-// The same, with working memory that is enough for every table.
-fn judge_by_search(table: Table, t: &[u8], twice: u32, out: &mut [u8]) -> JudgingAnswer
-    requires judge_asks { JudgeAsks table t.now out.old }
-    requires once_but { OnceBut table t.now twice }
-    ensures { Judges state_limit t.now out.old result out.new }
-{
-    let mut work = [0u8; WORK_BYTES * 2 * STATE_LIMIT];
-    judge_in(table, t, twice, &mut work, out)
-}
-
-// The verdict on a table that was read from t, with room for its list: one that is certified is clean, and only another is
-// searched.
+// The first faulty list of a table, with room for it: one that is certified has none, and only another is searched.
 #[tactic(auto, using(crate::proofs::Answers::judge_certified))]
-fn judge_read(table: Table, t: &[u8], out: &mut [u8]) -> JudgingAnswer
-    requires { JudgeAsks table t.now out.old }
-    ensures { Judges state_limit t.now out.old result out.new }
+fn judge_read(table: &ReadTable<'_>, out: &mut [u8]) -> Option<FaultyList>
+    requires { JudgeAsks table.now.table table.now.bytes.now out.old }
+    ensures { Judges state_limit table.now.bytes.now out.old (judging_answer (Ok result)) out.new }
 {
-    let certificate = certifying::certify(table, t);
-    if certificate.clean {
-        return JudgingAnswer::Clean;
-    }
-    judge_by_search(table, t, certificate.twice, out)
+    // No set of registers: the table is clean, and that is the answer.
+    let twice = certifying::certify(table)?;
+    judge_by_search(table, twice, out)
 }
 
-// Judges a table: clean, or the first faulty list in the first bytes of `out`, shorter lists first and those of one length in
-// kind order, with its fault; or a refusal, which writes nothing.
-pub fn judge(t: &[u8], out: &mut [u8]) -> JudgingAnswer
-    ensures { Judges state_limit t.now out.old result out.new }
+// Judges a table: `None` where it is clean, or the first faulty list in the first bytes of `out`, shorter lists first and those of
+// one length in kind order, with its fault; or a refusal, which writes nothing.
+#[tactic(auto, using(crate::proofs::Answers::judge_refused, crate::proofs::Answers::judge_short, crate::proofs::Answers::judge_asks))]
+pub fn judge(t: &[u8], out: &mut [u8]) -> Result<Option<FaultyList>, Refusal>
+    ensures { Judges state_limit t.now out.old (judging_answer result) out.new }
 {
-    let read = table::read_table(t);
-    let reading = read.reading;
-    match reading {
-        Reading::Refused(number) => JudgingAnswer::Refused(number),
-        Reading::Read => {
-            let table = read.table;
-            if out.len() < 2 * table.states as usize {
-                return JudgingAnswer::Refused(12);
-            }
-            judge_read(table, t, out)
-        }
-    }
+    let table = ReadTable::read(t)?;
+    fields::check(2 * table.table.states as usize <= out.len(), Refusal::Room)?;
+    Ok(judge_read(&table, out))
 }

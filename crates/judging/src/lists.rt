@@ -1,69 +1,86 @@
-// The two lists of the working memory, the one found last and the best, each in the last bytes of its part.
-ghost use Rattle.std.specs.Prelude.{◌≡◌};
-ghost use Rattle.judging.specs.Listed.{FoundAsks, FoundIs, ListsAsk, CompareIs, KeepAsks, kept, BetterIs};
+// A list of kinds that was found, and which of two is before the other.
+ghost use Rattle.std.specs.Prelude.{◌≡◌, ◌≤◌, ◌<◌, length, drop};
+ghost use Rattle.judging.specs.Limits.{node_limit};
+ghost use Rattle.judging.specs.Listed.{FoundIs, CompareIs, KeepIs};
 
-// How many bytes the working memory has for each node up to the end of the list found last, and in all: `found_bytes` and
-// `work_bytes`.
-const FOUND_BYTES: usize = 7;
+use crate::NODE_LIMIT;
+use crate::search::Found;
+use exploring::Exploration;
+use std::marker::Model;
 
-pub(crate) const WORK_BYTES: usize = 8;
-
-// Writes the kinds that led to an entry, and then a kind, as the list found. Answers how many kinds it has.
-pub(crate) fn write_found(work: &mut [u8], nodes: usize, entry: usize, kind: u8) -> usize
-    requires { FoundAsks nodes work.old entry }
-    ensures { FoundIs nodes work.old entry kind result work.new }
-{
-    let end = FOUND_BYTES * nodes;
-    let last = end - 1;
-    let at = exploring::write_path(work, nodes, entry, last);
-    work[last] = kind;
-    end - at
+// A list of kinds, from byte `from` on. An array that fits every list and no `Vec`, as the project uses no heap.
+#[derive(Drop)]
+pub(crate) struct List {
+    kinds: [u8; NODE_LIMIT],
+    from: usize,
 }
 
-// Whether the list found is before the best: shorter, or as long and earlier in kind order.
-fn is_before(work: &[u8], nodes: usize, found: usize, best: usize) -> bool
-    requires { ListsAsk nodes work.now found best }
-    ensures { CompareIs nodes work.now found best result }
-{
-    if found != best {
-        return found < best;
-    }
-    let end = FOUND_BYTES * nodes;
-    let mut at = end - found;
-    while at < end {
-        if work[at] != work[at + nodes] {
-            return work[at] < work[at + nodes];
-        }
-        at += 1;
-    }
-    false
+// Clauses see the kinds.
+impl Model for List {
+    ghost use Rattle.std.specs.Prelude.{ℕ, ◌≤◌, List, drop};
+    ghost use Rattle.judging.specs.Limits.{node_limit};
+
+    ghost Value = { List ℕ };
+
+    ghost view = { λ l. drop l.from l.kinds };
+
+    ghost invariant = { λ l. l.from ≤ node_limit };
 }
 
-// Makes the list found the best.
-pub(crate) fn keep(work: &mut [u8], nodes: usize, found: usize)
-    requires { KeepAsks nodes work.old found }
-    ensures { work.new ≡ kept nodes work.old found }
-{
-    let from = FOUND_BYTES * nodes - found;
-    let to = WORK_BYTES * nodes - found;
-    let mut i = 0;
-    while i < found {
-        work[to + i] = work[from + i];
-        i += 1;
+impl List {
+    pub(crate) fn as_slice(&self) -> &[u8]
+        ensures { result.now ≡ self.now }
+    {
+        &self.kinds[self.from..]
+    }
+
+    // Whether it is before another: shorter, or as long and earlier in kind order.
+    fn is_before(&self, other: &List) -> bool
+        ensures { CompareIs self.now other.now result }
+    {
+        let kinds = self.as_slice();
+        let others = other.as_slice();
+        let lengths = kinds.len().cmp(&others.len());
+        lengths.then(kinds.cmp(others)).is_lt()
     }
 }
 
-// Makes the better of the list found and the best the best. A list of no kinds is none. Answers how many kinds it has.
-pub(crate) fn better(work: &mut [u8], nodes: usize, found: usize, best: usize) -> usize
-    requires { ListsAsk nodes work.old found best }
-    ensures { BetterIs nodes work.old found best result work.new }
+// Writes the kinds that led to the entry that was found, and then its faulty kind, into the last bytes of `to`. Answers where they
+// begin.
+fn write(exploration: &Exploration<NODE_LIMIT>, found: Found, to: &mut [u8; NODE_LIMIT]) -> usize
+    requires there { found.entry < length exploration.now }
+    requires room { found.entry < node_limit }
+    ensures within { result ≤ node_limit }
+    ensures long { length to.new ≡ node_limit }
+    ensures found { FoundIs exploration.now found.entry found.kind (drop result to.new) }
 {
-    if found == 0 {
-        return best;
+    let last = NODE_LIMIT - 1;
+    let from = exploration.write_path(found.entry, &mut to[..last]);
+    to[last] = found.kind;
+    from
+}
+
+// Makes the kinds that led to the entry that was found, and then its faulty kind, the best list, where there is none or they are
+// before it. The best is lent and not handed on, since each copy of a list would take 400 bytes of stack.
+pub(crate) fn keep_better(
+    best: &mut Option<List>,
+    exploration: &Exploration<NODE_LIMIT>,
+    found: Found,
+)
+    requires there { found.entry < length exploration.now }
+    requires room { found.entry < node_limit }
+    ensures { KeepIs exploration.now found.entry found.kind best.old best.new }
+{
+    let mut list = List {
+        kinds: [0; NODE_LIMIT],
+        from: 0,
+    };
+    list.from = write(exploration, found, &mut list.kinds);
+    let better = match best {
+        Some(best) => list.is_before(best),
+        None => true,
+    };
+    if better {
+        *best = Some(list);
     }
-    if (best == 0) | is_before(work, nodes, found, best) {
-        keep(work, nodes, found);
-        return found;
-    }
-    best
 }

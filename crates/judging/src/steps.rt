@@ -1,84 +1,65 @@
-// One step of a walk that watches one register, or nothing: a node is a state and whether what is watched was given,
+// One step of a walk that watches one register, or nothing where that is `None`: a node is a state and whether what is watched was given,
 // 2 * state + 1 or 2 * state.
-ghost use Rattle.std.specs.Prelude.{◌≡◌, ◌+◌, ◌≤◌};
-ghost use Rattle.walking.specs.TableSteps.{FaultAsks};
-ghost use Rattle.judging.specs.Watched.{node_of, watched_bits, gives_watched, watched_fault, WatchedBelow};
+ghost use Rattle.std.specs.Prelude.{◌≡◌, ◌<◌, Some};
+ghost use Rattle.convention.specs.declared.Reg.{Reg as Register};
+ghost use Rattle.convention.specs.Results.{fault_of};
+ghost use Rattle.judging.specs.Watched.{node_of, watched_bits, gives_watched, watched_fault};
 ghost use Rattle.judging.specs.Searched.{WatchedStepIs};
 
-use convention::{Head, Reg, Shape, Transition};
+use convention::{Fault, Reg};
+use walking::Step;
 
-// What a walk watches: a register, or nothing.
+// What a walk watches: one of the sixteen registers, or nothing.
 #[derive(Clone, Copy)]
-pub(crate) enum Watch {
-    Register(Reg),
-    Nothing,
+pub(crate) struct Watching {
+    pub(crate) watch: Option<Reg>,
+    pub(crate) ghost below: { (r : Register) → watch ≡ Some r → r.0 < 16 },
 }
 
-// The set of what is watched, a bit for each register.
-fn watched_set(watch: Watch) -> u32
-    requires { WatchedBelow 16 watch }
-    ensures { result ≡ watched_bits watch }
-{
-    match watch {
-        Watch::Register(r) => stepping::run(r, 1),
-        Watch::Nothing => 0,
+impl Watching {
+    // The set of what is watched, a bit for each register.
+    #[tactic(auto, unfolding(crate::specs::Watched::watched_bits))]
+    fn set(self) -> u32
+        ensures { result ≡ watched_bits self.watch }
+    {
+        match self.watch {
+            Some(r) => stepping::run(r, 1),
+            None => 0,
+        }
     }
 }
 
-// Whether a transition gives what is watched.
-fn gives(x: Transition, watch: Watch) -> bool
-    requires b_bound { x.form ≡ 1 → x.a + x.b ≤ 16 }
-    requires watched_below { WatchedBelow 16 watch }
-    ensures { result ≡ gives_watched x watch }
+// Whether a step gives what is watched.
+fn gives(step: Step, watching: Watching) -> bool
+    ensures { result ≡ gives_watched step.x watching.watch }
 {
-    let watched = watched_set(watch);
-    walking::give(x, 0) & watched != 0
+    step.give(0) & watching.set() != 0
 }
 
-// The fault of a step as far as what is watched tells: 2 where that is given once more, and else that of a step before which
+// Checks a step as far as what is watched tells: fault 2 where that is given once more, and else that of a step before which
 // nothing was given.
-fn watched_fault(head: Head, shape: Shape, x: Transition, again: bool) -> u8
-    requires { FaultAsks head shape x }
-    ensures { result ≡ watched_fault head shape x again }
+#[tactic(auto, using(crate::proofs::Stepping::fault_again, crate::proofs::Stepping::fault_else))]
+fn check_watched(step: Step, again: bool) -> Result<(), Fault>
+    ensures { fault_of result ≡ watched_fault step.head step.shape step.x again }
 {
     if again {
-        return 2;
+        return Err(Fault::GivenTwice);
     }
-    walking::step_fault(head, shape, x, 0)
+    step.check(0)
 }
 
-// The node of a state.
+// The node of a state: one number, by which an exploration keeps it, and no struct with a `From`, as an entry has two bytes for it. `search` takes it apart again.
 fn node_of(state: u16, given: bool) -> usize
     ensures { result ≡ node_of state given }
 {
-    if given {
-        2 * state as usize + 1
-    } else {
-        2 * state as usize
-    }
+    2 * state as usize + given as usize
 }
 
-// What a step leads to: its fault, and the node after it.
-#[derive(Clone, Copy)]
-pub(crate) struct WatchedStep {
-    pub(crate) fault: u8,
-    pub(crate) next: usize,
-}
-
-// The step that a transition makes for a kind of this shape, where what is watched was given before it or was not.
-pub(crate) fn step(
-    head: Head,
-    shape: Shape,
-    x: Transition,
-    watch: Watch,
-    given: bool,
-) -> WatchedStep
-    requires fault_asks { FaultAsks head shape x }
-    requires watched_below { WatchedBelow 16 watch }
-    ensures { WatchedStepIs head shape x watch given result.fault result.next }
+// Takes a step, where what is watched was given before it or was not: its fault, or the node after it.
+pub(crate) fn take(step: Step, watching: Watching, given: bool) -> Result<usize, Fault>
+    ensures { WatchedStepIs step watching.watch given result }
 {
-    let here = gives(x, watch);
-    let fault = watched_fault(head, shape, x, given & here);
-    let next = node_of(x.next, given | here);
-    WatchedStep { fault, next }
+    let here = gives(step, watching);
+    check_watched(step, given & here)?;
+    Ok(node_of(step.x.next, given | here))
 }

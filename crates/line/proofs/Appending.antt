@@ -1,93 +1,81 @@
--- Laws of appending: nothing, one byte, a field in parts, and a field item by item, as a loop takes it.
+-- Laws of appending: nothing, a field after another, and a field item by item, as a loop takes it.
 use Prim.Native.Nat.{ℕ, ◌+◌, ◌≤◌, ◌<◌}
-use mathlib.Core.Path.{◌≡◌, refl, sym, ◌∙◌}
+use mathlib.Core.Path.{◌≡◌, refl, sym, ap, ◌∙◌}
 use mathlib.Core.List.{List, [], ◌∷◌, ◌++◌}
 use native.Mathlib.Nat.{add-zero}
-use native.Mathlib.Numerals.{add-one}
 use native.Mathlib.Omega.{arith}
-use lib.ListN.{length, get_or, set, drop, length-append, drop_of_length-le}
-use lib.Seq.{drop-cons}
+use lib.ListN.{length, get_or, take, length-append}
+use lib.Seq.{take_all}
+use Rattle.std.specs.List.{flat_map}
+use Rattle.std.proofs.lemmas.List.{take_more, flat_map_more}
+use Rattle.std.proofs.lemmas.List.Folds.{length-flat_map-take}
 use Rattle.convention.specs.Program.{decimal, further, kind_fields}
-use Rattle.convention.proofs.Bytes.{written_nothing, written_one, written_more, length_written}
-use Rattle.line.specs.Appended.{FieldRoom, Appended, FieldRest}
-
-pub nothing : {out : List ℕ} {at : ℕ} → FieldRoom out at [] → Appended out at [] at out
-nothing {out} {at} room = record { room = room; holds = sym (written_nothing out at); ends = sym (add-zero at) }
-
-pub one_byte : {out : List ℕ} {at byte : ℕ} → FieldRoom out at (byte ∷ []) → Appended out at (byte ∷ []) (at + 1) (set out at byte)
-one_byte {out} {at} {byte} room = record { room = room; holds = written_one out at byte (omega (arith, room.fits)); ends = refl }
+use Rattle.convention.proofs.Bytes.{written_nothing, written_more, length_written}
+use Rattle.line.specs.declared.Text.{Text}
+use Rattle.line.specs.Appended.{Appended, Room, Grown}
 
 -- Appending keeps the length.
 pub as_long : {out : List ℕ} {at : ℕ} {field : List ℕ} {next : ℕ} {after : List ℕ} → Appended out at field next after → length after ≡ length out
 as_long {out} {at} {field} done = rw done.holds (length_written out at field done.room.fits)
 
--- A field in two parts: room for the first, room for the second after it, and both in a row, which are the field.
-module _ {out : List ℕ} {at : ℕ} {field : List ℕ} (a b : List ℕ) (room : FieldRoom out at field) (e : field ≡ a ++ b) where
-  fits : at + (length a + length b) ≤ length out
-  fits = rw (← length-append a b, ← e) room.fits
+-- A field in two parts: room for the first, and room for the second after it.
+pub room_first : {text : Text} (a b : List ℕ) → Room text (a ++ b) → Room text a
+room_first a b room = record { there = record { fits = omega (arith, length-append a b, room.there.fits) } }
 
-  pub room_first : FieldRoom out at a
-  room_first = record { fits = omega (arith, fits) }
+pub room_after : {text after : Text} {a b : List ℕ} → Room text (a ++ b) → Grown text a after → Room after b
+room_after {a = a} {b} room first =
+    record { there = record { fits = omega (arith, length-append a b, room.there.fits, as_long first.appended, first.appended.ends) } }
 
-  pub room_after : {next : ℕ} {mid : List ℕ} → Appended out at a next mid → FieldRoom mid next b
-  room_after first = record { fits = omega (arith, fits, as_long first, first.ends) }
+-- Nothing, and two fields in a row.
+pub nothing : {text : Text} → Room text [] → Grown text [] text
+nothing {text} room =
+    record {
+      appended = record { room = room.there; holds = sym (written_nothing text.out.now text.len); ends = sym (add-zero text.len) };
+      same_memory = refl;
+    }
 
-pub two : {out : List ℕ} {at : ℕ} {field a : List ℕ} {n₁ : ℕ} {o₁ b : List ℕ} {n₂ : ℕ} {o₂ : List ℕ}
-    → Appended out at a n₁ o₁ → Appended o₁ n₁ b n₂ o₂ → field ≡ a ++ b → Appended out at field n₂ o₂
-two {out} {at} {a = a} {b = b} first second e =
-    rw e
-    (record {
-      room = record { fits = omega (arith, length-append a b, as_long first, first.ends, second.room.fits) };
-      holds = second.holds ∙ rw (first.holds, first.ends) (written_more out at a (omega (arith, first.room.fits)) b);
-      ends = omega (arith, length-append a b, first.ends, second.ends);
-    })
+pub in_a_row : {text mid after : Text} {a b : List ℕ} → Grown text a mid → Grown mid b after → Grown text (a ++ b) after
+in_a_row {text} {a = a} {b} first second =
+    let x = first.appended in
+    let y = second.appended in
+    record {
+      appended =
+          record {
+            room = record { fits = omega (arith, length-append a b, as_long x, x.ends, y.room.fits) };
+            holds = y.holds ∙ rw (x.holds, x.ends) (written_more text.out.now text.len a (omega (arith, x.room.fits)) b);
+            ends = omega (arith, length-append a b, x.ends, y.ends);
+          };
+      same_memory = second.same_memory ∙ first.same_memory;
+    }
 
--- The same in three parts, and in four.
-pub three : {out : List ℕ} {at : ℕ} {field a : List ℕ} {n₁ : ℕ} {o₁ b : List ℕ} {n₂ : ℕ} {o₂ c : List ℕ} {n₃ : ℕ} {o₃ : List ℕ}
-    → Appended out at a n₁ o₁ → Appended o₁ n₁ b n₂ o₂ → Appended o₂ n₂ c n₃ o₃ → field ≡ a ++ (b ++ c) → Appended out at field n₃ o₃
-three first second third e = two first (two second third refl) e
+-- For tactics.
+pub ruleset fields = (room_first, room_after, nothing, in_a_row)
 
-pub four : {out : List ℕ} {at : ℕ} {field a : List ℕ} {n₁ : ℕ} {o₁ b : List ℕ} {n₂ : ℕ} {o₂ c : List ℕ} {n₃ : ℕ} {o₃ d : List ℕ} {n₄ : ℕ} {o₄ : List ℕ}
-    → Appended out at a n₁ o₁ → Appended o₁ n₁ b n₂ o₂ → Appended o₂ n₂ c n₃ o₃ → Appended o₃ n₃ d n₄ o₄ → field ≡ a ++ (b ++ (c ++ d))
-    → Appended out at field n₄ o₄
-four first second third fourth e = two first (three second third fourth refl) e
+-- One more byte of a word, as a loop takes it.
+pub byte_on : {text mid after : Text} (word : List ℕ) (i : ℕ) → i < length word → Grown text (take i word) mid → Grown mid (get_or word i 0 ∷ []) after
+    → Grown text (take (i + 1) word) after
+byte_on word i h so_far next = rw (take_more word i 0 h) (in_a_row so_far next)
 
--- A field that is an item for each element of a list.
-pub record Items (item : ℕ → List ℕ) (items : List ℕ → List ℕ) : Type 0 where
-  pub none : items [] ≡ []
-  pub more : (x : ℕ) (xs : List ℕ) → items (x ∷ xs) ≡ item x ++ items xs
+-- The kinds of a list one by one, in the library's words.
+abbrev pub kind_field : ℕ → List ℕ
+kind_field k = further (decimal k)
 
--- A word is its bytes, and the kinds of a list are a field each.
-pub bytes : Items (λ b. b ∷ []) (λ word. word)
-bytes = record { none = refl; more = λ x xs. refl }
-
-pub kinds : Items (λ k. further (decimal k)) kind_fields
+pub kinds_flat : (list : List ℕ) → kind_fields list ≡ flat_map kind_field list
 unfolding kind_fields
-kinds = record { none = refl; more = λ x xs. refl }
+kinds_flat [] = refl
+kinds_flat (k ∷ list) = rw (kinds_flat list) refl
 
--- Item by item, as a loop takes it: before the first, after one more, and after the last.
-pub items_begin : {out : List ℕ} {at : ℕ} {field : List ℕ} → FieldRoom out at field → FieldRest out at field out at field
-items_begin room = record { long = refl; room = room; whole = λ end after done. done }
+pub kinds_done : {text after : Text} (list : List ℕ) (i : ℕ) → length list ≤ i → Grown text (flat_map kind_field (take i list)) after
+    → Grown text (kind_fields list) after
+kinds_done list i h done = rw kinds_flat (rw (take_all i list h) at done)
 
-module _ {item : ℕ → List ℕ} {items : List ℕ → List ℕ} (I : Items item items) (before : List ℕ) (at : ℕ) (field out : List ℕ) (next : ℕ)
-    (xs : List ℕ) (i : ℕ) (half : FieldRest before at field out next (items (drop i xs))) where
-  module _ (h : i < length xs) where
-    split : items (drop i xs) ≡ item (get_or xs i 0) ++ items (drop (i + 1) xs)
-    split = rw (add-one, drop-cons xs i 0 h) (I.more (get_or xs i 0) _)
+-- So there is room for the next one, and one more is appended.
+module _ {text mid : Text} (list : List ℕ) (i : ℕ) (h : i < length list) (so_far : Grown text (flat_map kind_field (take i list)) mid) where
+  pub kind_room : Room text (kind_fields list) → Room mid (kind_field (get_or list i 0))
+  kind_room room =
+      let done = so_far.appended in
+      let less = length-flat_map-take kind_field list i 0 h in
+      record { there = record { fits = omega (arith, ap length (kinds_flat list), room.there.fits, less, as_long done, done.ends) } }
 
-    pub item_room : FieldRoom out next (item (get_or xs i 0))
-    item_room = room_first _ _ half.room split
-
-    pub item_on : (next' : ℕ) (out' : List ℕ) → Appended out next (item (get_or xs i 0)) next' out'
-        → FieldRest before at field out' next' (items (drop (i + 1) xs))
-    item_on next' out' done =
-        record {
-          long = as_long done ∙ half.long;
-          room = room_after _ _ half.room split done;
-          whole = λ end after rest. half.whole end after (two done rest split);
-        }
-
-  pub items_end : length xs ≤ i → Appended before at field next out
-  items_end h =
-      let none : items (drop i xs) ≡ [] = rw (drop_of_length-le xs h) I.none in
-      half.whole next out (rw none (nothing (rw none at half.room)))
+  pub kind_on : {after : Text} → Grown mid (kind_field (get_or list i 0)) after → Grown text (flat_map kind_field (take (i + 1) list)) after
+  kind_on next = rw (take_more list i 0 h, ← flat_map_more kind_field [] (take i list) (get_or list i 0)) (in_a_row so_far next)

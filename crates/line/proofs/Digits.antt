@@ -1,13 +1,13 @@
 -- The decimal digits of a number: those of its tenth, then the last; and how many there are.
-use Prim.Native.Nat.{ℕ, zero, suc, ◌/◌, ◌≤◌, ◌<◌}
-use mathlib.Core.Path.{◌≡◌, refl}
-use mathlib.Core.List.{List, [], ◌∷◌, ◌++◌}
+use Prim.Native.Nat.{ℕ, zero, suc, ◌/◌, ◌^◌, ◌≤◌, ◌<◌}
+use mathlib.Core.Path.{◌≡◌, refl, sym, ap, ◌∙◌}
+use mathlib.Core.List.{[], ◌∷◌, ◌++◌}
 use native.Mathlib.Decide.{dec_lt}
 use native.Mathlib.Omega.{arith}
 use borrow.Author.Tests.{lt-ltb, le-ltb}
+use Rattle.std.proofs.lemmas.Fmt.{AppendsLastDigit, decimal_from_appends, length-decimal-le_succ}
+use Rattle.std.specs.Fmt.{decimal as printed}
 use Rattle.convention.specs.Program.{digit, digits_in, decimal}
-use Rattle.line.specs.Appended.{FieldRoom, Appended}
-use Rattle.line.proofs.Appending.{room_first, room_after, two}
 
 -- One turn: a number of one digit, and one of more.
 one_digit : (turns n : ℕ) → n < 10 → digits_in turns n ≡ digit n ∷ []
@@ -40,22 +40,11 @@ unfolding decimal
 decimal_more zero h = absurd (omega arith)
 decimal_more (suc n) h = rw (more_digits n (suc n) h, enough n (suc n / 10) (suc n / 10) (omega arith) (omega arith))
 
--- Appending them: a number of one digit, and one of more.
-module _ (out : List ℕ) (at n : ℕ) (room : FieldRoom out at (decimal n)) where
-  module _ (h : n < 10) where
-    pub one_room : FieldRoom out at (digit n ∷ [])
-    one_room = rw (decimal_one n h) at room
+-- They are what the library prints.
+in_turn : AppendsLastDigit digits_in
+in_turn = record { one = λ k n h. rw (one_digit (suc k) n h) (ap (λ d. d ∷ []) (omega arith)); more = λ k n h. more_digits k n h }
 
-    pub one_done : (next : ℕ) (after : List ℕ) → Appended out at (digit n ∷ []) next after → Appended out at (decimal n) next after
-    one_done next after done = rw (decimal_one n h) done
-
-  module _ (h : 10 ≤ n) where
-    pub tenth_room : FieldRoom out at (decimal (n / 10))
-    tenth_room = room_first _ _ room (decimal_more n h)
-
-    module _ (next : ℕ) (mid : List ℕ) (tenth : Appended out at (decimal (n / 10)) next mid) where
-      pub last_room : FieldRoom mid next (digit n ∷ [])
-      last_room = room_after _ _ room (decimal_more n h) tenth
-
-      pub last_done : (end : ℕ) (after : List ℕ) → Appended mid next (digit n ∷ []) end after → Appended out at (decimal n) end after
-      last_done end after last = two tenth last (decimal_more n h)
+pub decimal_printed : (n : ℕ) → n < 2 ^ 64 → printed n ≡ decimal n
+unfolding decimal
+decimal_printed n h =
+    sym (decimal_from_appends digits_in in_turn (suc n) n h (omega (arith, length-decimal-le_succ n h))) ∙ enough (suc n) n n (omega arith) (omega arith)

@@ -1,4 +1,3 @@
 pub mod Appending
-pub mod Cases
 pub mod Digits
 pub mod Lengths

@@ -1,6 +1,7 @@
 -- What appending a field asks and promises.
 use Rattle.std.specs.Prelude.{ℕ, ◌+◌, ◌≤◌, ◌≡◌, List, length}
 use Rattle.convention.specs.Bytes.{written}
+use Rattle.line.specs.declared.Text.{Text}
 
 -- There is room for `field` from byte `at` on.
 pub record FieldRoom (out : List ℕ) (at : ℕ) (field : List ℕ) : Type 0 where
@@ -12,8 +13,11 @@ pub record Appended (before : List ℕ) (at : ℕ) (field : List ℕ) (next : �
   pub holds : after ≡ written before at field
   pub ends : next ≡ at + length field
 
--- Half way through a field: there is room for the rest of it, and with the rest appended the whole is.
-pub record FieldRest (before : List ℕ) (at : ℕ) (field out : List ℕ) (next : ℕ) (rest : List ℕ) : Type 0 where
-  pub long : length out ≡ length before
-  pub room : FieldRoom out next rest
-  pub whole : (end : ℕ) (after : List ℕ) → Appended out next rest end after → Appended before at field end after
+-- There is room for `field` at the end of a text.
+pub record Room (text : Text) (field : List ℕ) : Type 0 where
+  pub there : FieldRoom text.out.now text.len field
+
+-- `field` was appended to a text, whose memory is the same.
+pub record Grown (before : Text) (field : List ℕ) (after : Text) : Type 0 where
+  pub appended : Appended before.out.now before.len field after.len after.out.now
+  pub same_memory : after.out.ghost_name ≡ before.out.ghost_name

@@ -12,7 +12,7 @@ use Rattle.convention.specs.declared.Placement.{Placement}
 use Rattle.convention.specs.declared.Placement.TheVariants.{Registers, Stack, Nowhere}
 use Rattle.convention.specs.declared.Sheet.{Sheet}
 use Rattle.convention.specs.declared.ByRules.{ByRules}
-use Rattle.convention.specs.declared.PlacingAnswer.TheVariants.{Placed}
+use Rattle.convention.specs.Answers.{Placed}
 use Rattle.convention.specs.Numbers.{argument_limit}
 use Rattle.convention.specs.Sheets.{is_closing, sheet_no, sheet_of, sheet_kind}
 use Rattle.convention.specs.Lists.{fault_from, state_from, places_from, KindsBelow}

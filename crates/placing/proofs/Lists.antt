@@ -5,63 +5,61 @@ use mathlib.Core.Path.{◌≡◌, refl, sym, subst, ap, ◌∙◌}
 use mathlib.Core.List.{List}
 use native.Mathlib.Omega.{arith}
 use native.Mathlib.Decide.{ℕ_discrete}
-use lib.ListN.{length, get_or, set, replicate, length-set, get_or-replicate}
+use lib.ListN.{length, get_or, set, length-set}
 use lib.Seq.{get_or-set_same, get_or-set_other}
-use Rattle.convention.specs.declared.Offset.{Offset}
 use Rattle.convention.specs.declared.ByRules.{ByRules}
+use Rattle.std.specs.Prelude.{Ok, Err}
 use Rattle.convention.specs.declared.Placement.{Placement}
+use Rattle.convention.specs.declared.Placement.TheVariants.{Registers, Stack, Nowhere}
+use Rattle.convention.specs.declared.Unplaced.TheVariants.{Faulty}
+use Rattle.convention.specs.declared.Fault.TheVariants.{NoPlace}
+use Rattle.convention.specs.Promised.{SheetRead}
 use Rattle.convention.specs.declared.Sheet.{Sheet}
 use Rattle.convention.specs.Bytes.{written}
 use Rattle.convention.specs.Sheets.{sheet_kind}
 use Rattle.convention.specs.Lists.{record_length, record_of}
-use Rattle.convention.specs.Rules.{place_fault, by_rules, rules_begin}
+use Rattle.convention.specs.Rules.{place_fault, by_rules}
 use Rattle.convention.specs.Shapes.{p_most}
 use Rattle.convention.proofs.Lists.{known}
-use Rattle.stepping.specs.Walks.{WalkMakes}
-use Rattle.stepping.proofs.Walks.{make_begin, make_room, make_on, make_hit, make_end}
+use Rattle.stepping.specs.Walks.{WalkAsks, WalkMakes}
+use Rattle.stepping.proofs.Walks.{make_on, make_hit, make_end}
 use Rattle.placing.specs.declared.RulesAt.{RulesAt}
-use Rattle.placing.specs.RulesSteps.{as_rules, MayBegin, StepFromAsks, StepFromIs, RulesListAsks, RulesMaking}
+use Rattle.placing.specs.RulesSteps.{as_rules, MayBegin, StepFromAsks, StepFromIs, RulesMaking}
 use Rattle.placing.proofs.Steps.{p_grows}
 use Rattle.placing.proofs.Given.{begins_still}
 
-module _ (sheet : Sheet) (ks before : List ℕ) where
-  -- Before the first argument.
-  pub making_begin : (s : RulesAt) → as_rules s ≡ rules_begin → RulesMaking sheet ks before (as_rules s) (replicate 8 0) 0 before
-  making_begin s e = rw e (record {
-    rest = make_begin (by_rules sheet) ks before;
-    reach = omega arith;
-    eight = refl;
-    cursors = λ k b. rw (get_or-replicate {A = ℕ} 8 k 0 0 b) (record { low = omega arith; closes = λ _. refl });
-  })
+-- A place is no fault.
+placed_clean : (place : Placement) → (place ≡ Nowhere → ⊥) → place_fault place ≡ 0
+placed_clean (Registers first count) z = refl
+placed_clean (Stack offset count) z = refl
+placed_clean Nowhere z = absurd (z refl)
 
+module _ (sheet : Sheet) (ks before : List ℕ) where
   module _ (made : List ℕ) (s : RulesAt) (from : List ℕ) (i : ℕ) (making : RulesMaking sheet ks before (as_rules s) from i made) where
     -- After the last one.
-    pub making_end : length ks ≤ i → WalkMakes (by_rules sheet) ks before 0 i s.p made
-    making_end h = make_end (by_rules sheet) ks before made (as_rules s) i making.rest s.p h refl
+    pub making_end : length ks ≤ i → WalkMakes (by_rules sheet) ks before (Ok s.p) made
+    making_end h = make_end (by_rules sheet) ks before made (as_rules s) i making.rest h
 
-    module _ (asks : RulesListAsks sheet ks (length before)) (h : i < length ks) where
+    module _ (read : SheetRead sheet) (asks : WalkAsks sheet.head.kinds ks (length before)) (h : i < length ks) where
       -- The next argument's kind is one of the sheet's, and so of the eight.
       kind_known : get_or ks i 0 < sheet.head.kinds
       kind_known = known sheet.head.kinds ks asks.listed.known i h
 
       pub kind_there : get_or ks i 0 < 8
-      kind_there = omega (arith, kind_known, asks.read.head.kinds)
+      kind_there = omega (arith, kind_known, read.head.kinds)
 
       -- Its step can be taken, and its record has room.
       pub next_asks : StepFromAsks sheet.head (sheet_kind sheet (get_or ks i 0)) (as_rules s) (get_or from (get_or ks i 0) 0)
       next_asks = record {
-        step = record { head = asks.read.head; kind = asks.read.kind _ kind_known; room = omega (arith, making.reach, asks.listed.short) };
+        step = record { head = read.head; kind = read.kind _ kind_known; room = omega (arith, making.reach, asks.listed.short) };
         cursor = making.cursors (get_or ks i 0) kind_there;
       }
 
-      pub next_room : record_length * i + record_length ≤ length made
-      next_room = make_room (by_rules sheet) ks before made (as_rules s) i making.rest h asks.room
-
       -- At an argument that has no place, and after one that has.
-      module _ (place : Placement) (next : RulesAt) (then fault : ℕ)
-          (step : StepFromIs sheet.head (sheet_kind sheet (get_or ks i 0)) (as_rules s) place (as_rules next) then) (ef : fault ≡ place_fault place) where
-        pub making_hit : (p : Offset) → (fault ≡ 0 → ⊥) → WalkMakes (by_rules sheet) ks before fault i p made
-        making_hit p nz = make_hit (by_rules sheet) ks before made (as_rules s) i making.rest made fault p h (ef ∙ ap place_fault step.step.placed) nz refl
+      module _ (place : Placement) (next : RulesAt) (then : ℕ)
+          (step : StepFromIs sheet.head (sheet_kind sheet (get_or ks i 0)) (as_rules s) place (as_rules next) then) where
+        pub making_hit : place ≡ Nowhere → WalkMakes (by_rules sheet) ks before (Err (Faulty i NoPlace)) made
+        making_hit e = make_hit (by_rules sheet) ks before made (as_rules s) i making.rest made NoPlace h (ap place_fault (sym e ∙ step.step.placed)) refl
 
         -- A search of each kind may begin where it might before, and of this one where the step says.
         cursors_on : (k : ℕ) → k < 8 → MayBegin sheet.head (sheet_kind sheet k) (as_rules next) (get_or (set from (get_or ks i 0) then) k 0)
@@ -73,15 +71,15 @@ module _ (sheet : Sheet) (ks before : List ℕ) where
               | no e ↦ rw (get_or-set_other from (get_or ks i 0) k then 0 e) (making.cursors k b)
             ]
 
-        pub making_on : (after : List ℕ) → fault ≡ 0 → after ≡ written made (record_length * i) (record_of place)
+        pub making_on : (after : List ℕ) → (place ≡ Nowhere → ⊥) → after ≡ written made (record_length * i) (record_of place)
             → RulesMaking sheet ks before (as_rules next) (set from (get_or ks i 0) then) (i + 1) after
         making_on after z ea = record {
-          rest = make_on (by_rules sheet) ks before made (as_rules s) i making.rest after (as_rules next) fault place h asks.room
-              (ef ∙ ap place_fault step.step.placed) z step.step.placed ea step.step.reached;
+          rest = make_on (by_rules sheet) ks before made (as_rules s) i making.rest after (as_rules next) 0 place h asks.room
+              (sym (placed_clean place z) ∙ ap place_fault step.step.placed) refl step.step.placed ea step.step.reached;
           reach =
               let Within : ByRules → Type 0 = λ s'. s'.p.0 ≤ p_most (i + 1) in
               subst Within (sym step.step.reached)
-              (omega (arith, making.reach, p_grows sheet.head _ (as_rules s) asks.read.head (asks.read.kind _ kind_known)));
+              (omega (arith, making.reach, p_grows sheet.head _ (as_rules s) read.head (read.kind _ kind_known)));
           eight = length-set from _ then ∙ making.eight;
           cursors = cursors_on;
         }

@@ -12,6 +12,7 @@ use lib.Dec.{eqb}
 use lib.ListN.{length, get_or, take, drop, drop_of_length-le}
 use lib.Seq.{length-take-le, take-suc, drop-cons, get_or-take}
 use borrow.Author.Tests.{eq-eqb, ne_eqb}
+use Rattle.std.specs.Prelude.{Some, None}
 use Rattle.convention.specs.Rules.{free_run, mark_run, mark_runs, skipped_before}
 use Rattle.convention.proofs.Runs.{either}
 use Rattle.stepping.specs.Sets.{set_of, run_bits, Among}
@@ -32,30 +33,26 @@ rest_of l n i h k = rw (add-one, drop-cons (take n l) i 0 (rw (length-take-le n 
 rest_end : (l : List ℕ) (n i : ℕ) → n ≤ length l → n ≤ i → drop i (take n l) ≡ []
 rest_end l n i h k = drop_of_length-le (take n l) {i = i} (rw (length-take-le n l h) k)
 
--- Start i is there, and its run lies within the sixteen.
+-- The search at start i.
 module _ (starts : List ℕ) (tries count i : ℕ) (runs : RunsWithin starts tries count) where
-  pub start_there : i < tries → i < length starts
-  start_there h = omega (arith, runs.there)
-
-  pub start_within : i < tries → get_or starts i 0 + count ≤ 16
-  start_within h = runs.within i h
-
   module _ (taken from passed : ℕ) (searching : Searching taken starts from tries count i passed) where
     -- All were tried.
-    pub search_end : tries ≤ i → SearchIs taken starts from tries count i passed
+    pub search_end : tries ≤ i → SearchIs taken starts from tries count None passed
     unfolding skipped_before
-    search_end h = record { skips = omega (arith, rw (rest_end starts tries i runs.there h) at searching.skips); passes = searching.passes }
+    search_end h =
+        let all : i ≡ tries = omega (arith, searching.within) in
+        record { within = tt; skips = omega (arith, rw (rest_end starts tries i runs.there h) at searching.skips); passes = rw (← all) searching.passes }
 
     module _ (h : i < tries) (run : ℕ) (er : run ≡ run_bits (get_or starts i 0) count) where
       tested : free_run (set_of 16 taken) (get_or starts i 0) count ≡ eqb (bit_and taken run) 0
       tested = rw er (sym (free_set 16 taken (get_or starts i 0) count (runs.within i h)))
 
       -- The run of the start there is free.
-      pub search_hit : bit_and taken run ≡ 0 → SearchIs taken starts from tries count i passed
+      pub search_hit : bit_and taken run ≡ 0 → SearchIs taken starts from tries count (Some i) passed
       unfolding skipped_before
       search_hit z =
           let free : free_run (set_of 16 taken) (get_or starts i 0) count ≡ true = tested ∙ eq-eqb _ _ z in
-          record { skips = omega (arith, rw (rest_of starts tries i runs.there h, skipped_before, free) at searching.skips); passes = searching.passes }
+          record { within = h; skips = omega (arith, rw (rest_of starts tries i runs.there h, skipped_before, free) at searching.skips); passes = searching.passes }
 
       -- It is not, and is passed.
       pub search_on : (bit_and taken run ≡ 0 → ⊥) → Searching taken starts from tries count (i + 1) (bit_or passed run)

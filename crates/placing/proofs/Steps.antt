@@ -1,22 +1,23 @@
 -- Laws of one step, on plain values: what its parts ask, and how the place and what comes after it are put together from what each part answers.
-use Prim.Native.Nat.{ℕ, ◌+◌, ◌%◌, ◌≤◌, ◌<◌}
-use mathlib.Core.Path.{◌≡◌, refl, ◌∙◌}
+use Prim.Native.Nat.{ℕ, ◌+◌, ◌≤◌, ◌<◌}
+use mathlib.Core.Path.{◌≡◌, refl, sym, ◌∙◌}
 use mathlib.Core.Bool.{Bool, true, false, cond}
-use mathlib.Core.List.{List}
 use native.Mathlib.Omega.{arith}
-use lib.Dec.{ltb}
+use native.Mathlib.Nat.{le_refl}
+use Rattle.std.specs.Prelude.{Option}
+use lib.Dec.{ltb, leb}
 use lib.Bits.{bit_or}
 use lib.ListN.{length, get_or, take}
 use lib.Seq.{length-take-le, get_or-take, take-take}
-use borrow.Author.Tests.{ltb-true, lt-ltb, le-ltb, lt-leb, le-leb, eq-eqb, ne_eqb}
+use borrow.Author.Tests.{ltb-true, leb-true, lt-ltb, le-ltb}
 use Rattle.convention.specs.declared.Head.{Head}
-use Rattle.convention.specs.declared.Shape.{Shape}
 use Rattle.convention.specs.declared.Offset.{Offset}
 use Rattle.convention.specs.declared.SheetKind.{SheetKind}
 use Rattle.convention.specs.declared.Placement.{Placement}
 use Rattle.convention.specs.declared.Placement.TheVariants.{Registers, Stack, Nowhere}
 use Rattle.convention.specs.declared.ByRules.{ByRules}
 use Rattle.convention.specs.Offsets.{least_offset}
+use Rattle.convention.specs.Sheets.{may_use_stack}
 use Rattle.convention.specs.Shapes.{stack_bytes, step_most}
 use Rattle.convention.specs.Promised.{HeadRead, SheetKindRead}
 use Rattle.convention.specs.Rules.{skipped_before, skipped_of, starts_of, needed, start_taken, stack_offset, rules_place, place_taken, place_p, rules_after}
@@ -26,7 +27,7 @@ use Rattle.convention.proofs.Offsets.{least_lt, modulus_pos, modulus_most}
 use Rattle.stepping.specs.Ends.{run_end, stack_end}
 use Rattle.stepping.specs.Sets.{set_of}
 use Rattle.placing.specs.declared.RulesAt.{RulesAt}
-use Rattle.placing.specs.RulesSteps.{as_rules, RunsWithin, SearchAsks, SearchIs, PlaceAsks, place_found, AfterAsks, AfterIs, state_after, CursorIs, RulesStepAsks, MayBegin, StepFromIs}
+use Rattle.placing.specs.RulesSteps.{as_rules, RunsWithin, SearchIs, skipped_by, place_found, AfterAsks, AfterIs, state_after, CursorIs, RulesStepAsks, MayBegin, StepFromIs}
 use Rattle.placing.proofs.Starts.{skipped_le}
 
 module _ (h : Head) (k : SheetKind) (head : HeadRead h) (kind : SheetKindRead h k) where
@@ -59,31 +60,28 @@ module _ (h : Head) (k : SheetKind) (head : HeadRead h) (kind : SheetKindRead h 
       stack : stack_offset k s.p.0 + stack_bytes k.shape ≤ s.p.0 + step_most
       stack = omega (arith, stack_most h k.shape kind.shape, modulus_most k.shape.alignment kind.shape.alignment, least_lt k.shape.alignment 0 s.p.0 aligned)
 
--- The place: registers, stack or nowhere, by how many starts were skipped and whether the stack is allowed.
-module _ (shape : Shape) (flags : ℕ) (starts : List ℕ) (tries count skipped : ℕ) (p : Offset) where
-  pub found_registers : skipped < tries → Registers (record { 0 = get_or starts skipped 0 }) count ≡ place_found shape flags starts tries count skipped p
+-- The place: registers, stack or nowhere, by which start was found and whether the stack is allowed.
+module _ (k : SheetKind) (count : ℕ) (p : Offset) where
+  pub found_registers : (i : ℕ) → i < k.tries → Registers (record { 0 = get_or k.starts i 0 }) count ≡ place_found k count i p
   unfolding place_found
-  found_registers l = rw (lt-ltb skipped tries l)
+  found_registers i l = rw (lt-ltb i k.tries l)
 
-  pub found_stack : (offset : Offset) (bytes : ℕ) → tries ≤ skipped → flags % 2 ≡ 1 → offset.0 ≡ least_offset shape.alignment 0 p.0
-      → bytes ≡ stack_bytes shape → Stack offset bytes ≡ place_found shape flags starts tries count skipped p
+  pub found_stack : (may : Bool) (offset : Offset) (bytes : ℕ) → may ≡ may_use_stack k → may ≡ true → offset.0 ≡ least_offset k.shape.alignment 0 p.0
+      → bytes ≡ stack_bytes k.shape → Stack offset bytes ≡ place_found k count k.tries p
   unfolding place_found
-  found_stack offset bytes l f e eb = rw (le-ltb skipped tries l, eq-eqb _ _ f, ← e, eb)
+  found_stack may offset bytes em allowed e eb = rw (le-ltb k.tries k.tries (le_refl k.tries), ← em, allowed, ← e, eb)
 
-  pub found_nowhere : tries ≤ skipped → (flags % 2 ≡ 1 → ⊥) → Nowhere ≡ place_found shape flags starts tries count skipped p
+  pub found_nowhere : (may : Bool) → may ≡ may_use_stack k → may ≡ false → Nowhere ≡ place_found k count k.tries p
   unfolding place_found
-  found_nowhere l f = rw (le-ltb skipped tries l, ne_eqb _ _ f)
+  found_nowhere may em barred = rw (le-ltb k.tries k.tries (le_refl k.tries), ← em, barred)
 
--- One step: what its search and its place ask, and once the starts were searched what the place is, what comes after it, and both together.
+-- One step: once the starts were searched what the place is, what comes after it, and both together.
 module _ (h : Head) (k : SheetKind) (s : RulesAt) (asks : RulesStepAsks h k (as_rules s)) where
-  pub place_asks : PlaceAsks k.shape k.starts k.tries s.p
-  place_asks = record { aligned = asks.kind.shape.alignment; there = tries_there h k asks.head asks.kind; room = asks.room }
+  module _ (from count : ℕ) (found : Option ℕ) (passed : ℕ) (ec : count ≡ needed h.width k) (searched : SearchIs s.unavailable k.starts from k.tries count found passed)
+      (place : Placement) (ep : place ≡ place_found k count (skipped_by k.tries found) s.p) where
+    abbrev skipped : ℕ
+    skipped = skipped_by k.tries found
 
-  pub search_asks : (from count : ℕ) → MayBegin h k (as_rules s) from → count ≡ needed h.width k → SearchAsks s.unavailable k.starts from k.tries count
-  search_asks from count cursor e = record { runs = runs_within h k asks.head asks.kind count e; skips = rw e cursor.low }
-
-  module _ (from count skipped passed : ℕ) (ec : count ≡ needed h.width k) (searched : SearchIs s.unavailable k.starts from k.tries count skipped passed)
-      (place : Placement) (ep : place ≡ place_found k.shape k.flags k.starts k.tries count skipped s.p) where
     count_starts : length (starts_of k) ≡ k.tries
     count_starts = starts_count h k asks.head asks.kind
 
@@ -123,13 +121,15 @@ module _ (h : Head) (k : SheetKind) (s : RulesAt) (asks : RulesStepAsks h k (as_
 -- What comes after a place: what it takes, and the registers that were passed too where the kind closes.
 module _ (flags passed : ℕ) (place : Placement) (s : RulesAt) (taken : ℕ) (p : Offset)
     (et : set_of 16 taken ≡ place_taken place (set_of 16 s.unavailable)) (ep : p ≡ place_p place s.p) where
-  pub after_open : flags < 2 → AfterIs flags passed place (as_rules s) (as_rules (record { unavailable = taken; p = p }))
+  pub after_open : (closing : Bool) → closing ≡ leb 2 flags → closing ≡ false → AfterIs flags passed place (as_rules s) (as_rules (record { unavailable = taken; p = p }))
   unfolding state_after
-  after_open l = record { state = λ count skipped marks. rw (lt-leb 2 flags l, et, ep) }
+  after_open closing e not = record { state = λ count skipped marks. rw (← e, not, et, ep) }
 
-  pub after_closed : 2 ≤ flags → AfterIs flags passed place (as_rules s) (as_rules (record { unavailable = bit_or taken passed; p = p }))
+  pub after_closed : (closing : Bool) → closing ≡ leb 2 flags → closing ≡ true → AfterIs flags passed place (as_rules s) (as_rules (record { unavailable = bit_or taken passed; p = p }))
   unfolding state_after
-  after_closed l = record { state = λ count skipped marks. rw (le-leb 2 flags l, ← marks l taken, et, ep) }
+  after_closed closing e closed =
+      let h : 2 ≤ flags = leb-true 2 flags (sym e ∙ closed) in
+      record { state = λ count skipped marks. rw (← e, closed, ← marks h taken, et, ep) }
 
 -- p grows by at most `step_most`.
 pub p_grows : (h : Head) (k : SheetKind) (s : ByRules) → HeadRead h → SheetKindRead h k

@@ -1,25 +1,23 @@
 -- What the functions of placing by the rules ask and promise of one another.
-use Rattle.std.specs.Prelude.{ℕ, ◌+◌, ◌*◌, ◌%◌, ◌≤◌, ◌<◌, ◌^◌, ◌≡◌, true, cond, List, ltb, leb, eqb, length, get_or, take, drop}
+use Rattle.std.specs.Prelude.{ℕ, Option, Some, None, ◌+◌, ◌%◌, ◌≤◌, ◌<◌, ◌^◌, ◌≡◌, true, cond, List, ltb, leb, eqb, length, get_or, take, drop}
 use Rattle.std.specs.Int.Bits.{bit_or}
+use Rattle.std.specs.Option.{unwrap_or}
 use Rattle.convention.specs.declared.Head.{Head}
-use Rattle.convention.specs.declared.Shape.{Shape}
 use Rattle.convention.specs.declared.Offset.{Offset}
 use Rattle.convention.specs.declared.SheetKind.{SheetKind}
 use Rattle.convention.specs.declared.Placement.{Placement}
 use Rattle.convention.specs.declared.Placement.TheVariants.{Registers, Stack, Nowhere}
 use Rattle.convention.specs.declared.Sheet.{Sheet}
 use Rattle.convention.specs.declared.ByRules.{ByRules}
-use Rattle.convention.specs.Numbers.{argument_limit}
 use Rattle.convention.specs.Fields.{is_modulus}
 use Rattle.convention.specs.Offsets.{least_offset}
-use Rattle.convention.specs.Promised.{HeadRead, SheetKindRead, SheetRead}
-use Rattle.convention.specs.Lists.{record_length}
+use Rattle.convention.specs.Promised.{HeadRead, SheetKindRead}
 use Rattle.convention.specs.Sheets.{sheet_kind}
 use Rattle.convention.specs.Rules.{skipped_before, skipped_of, mark_runs, place_taken, place_p, rules_place, rules_after, by_rules}
 use Rattle.convention.specs.Shapes.{stack_bytes, step_most, p_most}
 use Rattle.stepping.specs.Ends.{run_end, stack_end}
 use Rattle.stepping.specs.Sets.{set_of}
-use Rattle.stepping.specs.Walks.{MakeRest, Listed, RecordsRoom, short_list}
+use Rattle.stepping.specs.Walks.{MakeRest}
 use Rattle.placing.specs.declared.RulesAt.{RulesAt}
 
 -- The definitions' state that the code's stands for: its unavailable registers as flags.
@@ -40,10 +38,20 @@ pub record SearchAsks (taken : ℕ) (starts : List ℕ) (from tries count : ℕ)
   pub runs : RunsWithin starts tries count
   pub skips : from ≤ skipped_before (set_of 16 taken) count (take tries starts)
 
+-- How many starts were skipped, those before the one that was found; all, where none was.
+abbrev pub skipped_by : ℕ → Option ℕ → ℕ
+skipped_by tries found = unwrap_or found tries
+
+-- The one that was found is among those that were tried.
+abbrev pub FoundIn : ℕ → Option ℕ → Type 0
+FoundIn tries None = Unit {0}
+FoundIn tries (Some i) = i < tries
+
 -- What it found: how many were skipped, and the registers of their runs where it began at the first start.
-pub record SearchIs (taken : ℕ) (starts : List ℕ) (from tries count skipped passed : ℕ) : Type 0 where
-  pub skips : skipped ≡ skipped_before (set_of 16 taken) count (take tries starts)
-  pub passes : from ≡ 0 → Marks count (take skipped starts) passed
+pub record SearchIs (taken : ℕ) (starts : List ℕ) (from tries count : ℕ) (found : Option ℕ) (passed : ℕ) : Type 0 where
+  pub within : FoundIn tries found
+  pub skips : skipped_by tries found ≡ skipped_before (set_of 16 taken) count (take tries starts)
+  pub passes : from ≡ 0 → Marks count (take (skipped_by tries found) starts) passed
 
 -- Half way through it, before start i.
 pub record Searching (taken : ℕ) (starts : List ℕ) (from tries count i passed : ℕ) : Type 0 where
@@ -51,17 +59,18 @@ pub record Searching (taken : ℕ) (starts : List ℕ) (from tries count i passe
   pub skips : i + skipped_before (set_of 16 taken) count (drop i (take tries starts)) ≡ skipped_before (set_of 16 taken) count (take tries starts)
   pub passes : from ≡ 0 → Marks count (take i starts) passed
 
--- A place: an alignment that was read, the starts that are tried, and room on the stack.
-pub record PlaceAsks (shape : Shape) (starts : List ℕ) (tries : ℕ) (p : Offset) : Type 0 where
-  pub aligned : is_modulus shape.alignment ≡ true
-  pub there : tries ≤ length starts
+-- A place: an alignment that was read, the starts that are tried, with the one that was found, and room on the stack.
+pub record PlaceAsks (k : SheetKind) (found : Option ℕ) (p : Offset) : Type 0 where
+  pub aligned : is_modulus k.shape.alignment ≡ true
+  pub there : k.tries ≤ length k.starts
+  pub within : FoundIn k.tries found
   pub room : p.0 + step_most < 2 ^ 32
 
 -- Rules 1, 2 and 3, of a kind whose search skipped so many starts: registers where one is left, otherwise stack if it is allowed, otherwise no place.
-unfoldable pub place_found : Shape → ℕ → List ℕ → ℕ → ℕ → ℕ → Offset → Placement
-place_found shape flags starts tries count skipped p =
-    cond (ltb skipped tries) (Registers (record { 0 = get_or starts skipped 0 }) count)
-    (cond (eqb (flags % 2) 1) (Stack (record { 0 = least_offset shape.alignment 0 p.0 }) (stack_bytes shape)) Nowhere)
+unfoldable pub place_found : SheetKind → ℕ → ℕ → Offset → Placement
+place_found k count skipped p =
+    cond (ltb skipped k.tries) (Registers (record { 0 = get_or k.starts skipped 0 }) count)
+    (cond (eqb (k.flags % 2) 1) (Stack (record { 0 = least_offset k.shape.alignment 0 p.0 }) (stack_bytes k.shape)) Nowhere)
 
 -- What comes after a place: its run lies within the sixteen, and its stack bytes end at an offset.
 pub record AfterAsks (place : Placement) : Type 0 where
@@ -109,12 +118,6 @@ pub record StepFromIs (h : Head) (k : SheetKind) (s : ByRules) (place : Placemen
   pub step : RulesStepIs h k s place next
   pub cursor : MayBegin h k s from
 
--- A list of kinds of a sheet that was read, of no more arguments than a call places, and memory for its records.
-pub record RulesListAsks (sheet : Sheet) (ks : List ℕ) (long : ℕ) : Type 0 where
-  pub read : SheetRead sheet
-  pub listed : Listed argument_limit sheet.head.kinds ks
-  pub room : record_length * length ks ≤ long
-
 -- Half way through a list, before argument i: what is left gives the rest of the answer and of the records, p is no further than i arguments can take it, and
 -- each kind's search may begin where `from` says.
 pub record RulesMaking (sheet : Sheet) (ks before : List ℕ) (s : ByRules) (from : List ℕ) (i : ℕ) (made : List ℕ) : Type 0 where
@@ -122,13 +125,3 @@ pub record RulesMaking (sheet : Sheet) (ks before : List ℕ) (s : ByRules) (fro
   pub reach : s.p.0 ≤ p_most i
   pub eight : length from ≡ 8
   pub cursors : (k : ℕ) → k < 8 → MayBegin sheet.head (sheet_kind sheet k) s (get_or from k 0)
-
--- A sheet that was read, and memory for the records of a list that passes its first tests with so much room.
-pub record DecideAsks (sheet : Sheet) (ks : List ℕ) (room long : ℕ) : Type 0 where
-  pub read : SheetRead sheet
-  pub records : RecordsRoom argument_limit ks room long
-
--- A sheet that was read, and a short list.
-pub record ShortAsks (sheet : Sheet) (ks : List ℕ) : Type 0 where
-  pub read : SheetRead sheet
-  pub short : length ks ≤ short_list

@@ -7,16 +7,19 @@ use native.Mathlib.Nat.{le_refl, add-zero}
 use native.Mathlib.Numerals.{add-one}
 use lib.Dec.{leb}
 use lib.ListN.{length, get_or, take, drop, set, replicate, length-drop}
-use lib.Seq.{take_all, drop-cons, drop-drop, get_or-drop}
+use lib.Seq.{take_all, drop-cons, drop-drop}
 use Rattle.convention.specs.Fields.{field_no}
 use Rattle.convention.specs.Layout.{kinds_at}
 use Rattle.convention.specs.declared.Head.{Head}
 use Rattle.convention.specs.declared.SheetKind.{SheetKind}
+use Rattle.convention.specs.declared.Refusal.{Refusal}
+use Rattle.convention.specs.Results.{refusal_number}
+use Rattle.convention.proofs.Results.{refusal_not}
 use Rattle.convention.specs.Sheets.{starts_no, sheet_kind_length, sheet_kind_no, sheet_kind_of, sheet_kinds_no, sheet_kinds_of, sheet_kinds_length, sheet_kind_at, blank_kind}
 use Rattle.convention.proofs.Slices.{rest_of}
-use Rattle.convention.proofs.Filled.{filled, fill_turn, fill_done}
+use Rattle.convention.proofs.Filled.{fill_turn, fill_done}
 use Rattle.convention.proofs.Sheets.{kind_tries, kind_length, kinds_count, kind_next, kind_within}
-use Rattle.sheet.specs.Kinds.{KindsAre, KindsRest, KindWhole, KindsRight, KindsStored, KindThere}
+use Rattle.sheet.specs.Kinds.{KindsRest, KindWhole, KindsStored, KindThere}
 use Rattle.convention.proofs.Numbers.{or_zero}
 use Rattle.convention.proofs.InTurn.{Things, InTurn, turn_right, turn_wrong, turn_end}
 
@@ -28,19 +31,19 @@ starts_turns : (n k : ℕ) (s : List ℕ) → InTurn (starts_in_turn n k s)
 unfolding starts_no
 starts_turns n k s = record { none = λ at. refl; more = λ at left. refl }
 
-module _ (n k : ℕ) (s : List ℕ) (at left w : ℕ) (inv : starts_no n k s at left ≡ w) where
-  module _ (start number : ℕ) (h : 0 < left) (es : start ≡ get_or s at 0) (en : number ≡ field_no s at (leb (start + k) n) 5) where
-    here : number ≡ field_no s at (leb (get_or s at 0 + k) n) 5
-    here = rw (← es) en
+module _ (n k : ℕ) (s : List ℕ) (at end w : ℕ) (inv : starts_no n k s at (end - at) ≡ w) where
+  pub starts_more : (start : ℕ) → at < end → start ≡ get_or s at 0 → 0 ≡ field_no s at (leb (start + k) n) 5 → starts_no n k s (at + 1) (end - (at + 1)) ≡ w
+  starts_more start h es ez =
+      let less : end - (at + 1) ≡ end - at - 1 = omega arith in
+      rw less (turn_right (starts_in_turn n k s) (starts_turns n k s) w at (end - at) 0 inv (omega arith) (rw (← es) ez) refl)
 
-    pub starts_more : number ≡ 0 → starts_no n k s (at + 1) (left - 1) ≡ w
-    starts_more z = turn_right (starts_in_turn n k s) (starts_turns n k s) w at left number inv h here z
+  pub starts_hit : (start : ℕ) (refusal : Refusal) → at < end → start ≡ get_or s at 0
+      → refusal_number refusal ≡ field_no s at (leb (start + k) n) 5 → refusal_number refusal ≡ w
+  starts_hit start refusal h es en =
+      turn_wrong (starts_in_turn n k s) (starts_turns n k s) w at (end - at) (refusal_number refusal) inv (omega arith) (rw (← es) en) (refusal_not refusal)
 
-    pub starts_hit : (number ≡ 0 → ⊥) → number ≡ w
-    starts_hit nz = turn_wrong (starts_in_turn n k s) (starts_turns n k s) w at left number inv h here nz
-
-  pub starts_end : left ≤ 0 → 0 ≡ w
-  starts_end h = turn_end (starts_in_turn n k s) (starts_turns n k s) w at left inv h
+  pub starts_end : end ≤ at → 0 ≡ w
+  starts_end h = turn_end (starts_in_turn n k s) (starts_turns n k s) w at (end - at) inv (omega arith)
 
 -- The kinds, each where the one before it ends. A kind that is right leaves the number and the end of the others; one that is not gives its own number.
 abbrev kinds_in_turn : ℕ → Head → List ℕ → Things
@@ -68,40 +71,31 @@ unfolding sheet_kinds_length
 lengths_end v s at zero t = add-zero at
 lengths_end v s at (suc left) t = absurd (omega arith)
 
-module _ (v : ℕ) (h : Head) (s : List ℕ) (at left : ℕ) (inv : KindsRest v h s at left) where
-  module _ (number : ℕ) (t : 0 < left) (en : number ≡ sheet_kind_no v h (take (length s - at) (drop at s))) where
-    this : number ≡ sheet_kind_no v h (drop at s)
-    this = rw (← rest_of s at) en
+module _ (v : ℕ) (h : Head) (s : List ℕ) (at i : ℕ) (inv : KindsRest v h s at (h.kinds - i)) where
+  this : (number : ℕ) → number ≡ sheet_kind_no v h (take (length s - at) (drop at s)) → number ≡ sheet_kind_no v h (drop at s)
+  this number en = rw (← rest_of s at) en
 
-    pub kinds_turn : (len : ℕ) → number ≡ 0 → len ≡ sheet_kind_length v (take (length s - at) (drop at s)) → KindsRest v h s (at + len) (left - 1)
-    kinds_turn len z el =
-        let long : len ≡ sheet_kind_length v (drop at s) = rw (← rest_of s at) el in
-        record {
-          within = omega (arith, simp length-drop at (kind_length v h (drop at s) (sym this ∙ z)), inv.within);
-          numbers = rw long (turn_right (kinds_in_turn v h s) (kinds_turns v h s) _ at left number inv.numbers t this z);
-          lengths = rw long (lengths_on v s at left t ∙ inv.lengths);
-        }
-
-    pub kinds_hit : (number ≡ 0 → ⊥) → KindsAre v h s number 0
-    kinds_hit nz =
-        record {
-          first = turn_wrong (kinds_in_turn v h s) (kinds_turns v h s) _ at left number inv.numbers t this nz;
-          ends = λ z. absurd (nz z);
-        }
-
-  pub kinds_end : left ≤ 0 → KindsAre v h s 0 at
-  kinds_end t =
+  pub kinds_turn : (len : ℕ) → i < h.kinds → 0 ≡ sheet_kind_no v h (take (length s - at) (drop at s))
+      → len ≡ sheet_kind_length v (take (length s - at) (drop at s)) → KindsRest v h s (at + len) (h.kinds - (i + 1))
+  kinds_turn len t ez el =
+      let long : len ≡ sheet_kind_length v (drop at s) = rw (← rest_of s at) el in
+      let less : h.kinds - (i + 1) ≡ h.kinds - i - 1 = omega arith in
       record {
-        first = turn_end (kinds_in_turn v h s) (kinds_turns v h s) _ at left inv.numbers t;
-        ends = λ z. sym (lengths_end v s at left t) ∙ inv.lengths;
+        within = omega (arith, simp length-drop at (kind_length v h (drop at s) (sym (this 0 ez))), inv.within);
+        numbers = rw (long, less) (turn_right (kinds_in_turn v h s) (kinds_turns v h s) _ at (h.kinds - i) 0 inv.numbers (omega arith) (this 0 ez) refl);
+        lengths = rw (long, less) (lengths_on v s at (h.kinds - i) (omega arith) ∙ inv.lengths);
       }
 
--- One more start in its place.
-pub start_stored : (s starts : List ℕ) (first tries i : ℕ)
-    → starts ≡ filled (drop first s) 16 0 i → i < tries → tries ≤ 16 → first + tries ≤ length s
-    → set starts i (get_or s (first + i) 0) ≡ filled (drop first s) 16 0 (i + 1)
-start_stored s starts first tries i inv h t l =
-    fill_turn (drop first s) 16 0 starts i 0 _ inv (omega arith) (rw length-drop (omega arith)) (get_or-drop first s i 0)
+  pub kinds_hit : (refusal : Refusal) → i < h.kinds → refusal_number refusal ≡ sheet_kind_no v h (take (length s - at) (drop at s))
+      → refusal_number refusal ≡ sheet_kinds_no v h (drop kinds_at s) h.kinds
+  kinds_hit refusal t en =
+      turn_wrong (kinds_in_turn v h s) (kinds_turns v h s) _ at (h.kinds - i) (refusal_number refusal) inv.numbers (omega arith) (this _ en) (refusal_not refusal)
+
+  pub kinds_end : h.kinds ≤ i → 0 ≡ sheet_kinds_no v h (drop kinds_at s) h.kinds
+  kinds_end t = turn_end (kinds_in_turn v h s) (kinds_turns v h s) _ at (h.kinds - i) inv.numbers (omega arith)
+
+  pub kinds_ended : h.kinds ≤ i → at ≡ sheet_kind_at v s h.kinds
+  kinds_ended t = sym (lengths_end v s at (h.kinds - i) (omega arith)) ∙ inv.lengths
 
 -- What storing the next kind needs to know of it: it is right, it ends within the sheet, and it is the next of all.
 module _ (v : ℕ) (h : Head) (s : List ℕ) (at i : ℕ) (kinds : List SheetKind) (inv : KindsStored v h s at i kinds) (t : i < h.kinds) where
@@ -141,13 +135,7 @@ module _ (v : ℕ) (h : Head) (s : List ℕ) (at i : ℕ) (kinds : List SheetKin
         stored = fill_turn all 8 blank_kind kinds i kind kind inv.stored (omega arith) (omega arith) here;
       }
 
--- Nothing stored yet, and all stored.
-pub kinds_begin : (v : ℕ) (h : Head) (s : List ℕ) (kinds : List SheetKind)
-    → KindsRight v h s → kinds ≡ replicate 8 blank_kind → KindsStored v h s kinds_at 0 kinds
-kinds_begin v h s kinds right e =
-    let none : h.kinds - 0 ≡ h.kinds = omega arith in
-    record { within = right.within; count = omega arith; right = rw none right.right; rest = rw none; stored = e }
-
+-- All stored.
 pub kinds_done : (v : ℕ) (h : Head) (s : List ℕ) (at i : ℕ) (kinds : List SheetKind)
     → KindsStored v h s at i kinds → h.kinds ≤ i → kinds ≡ sheet_kinds_of v (drop kinds_at s) h.kinds ++ replicate (8 - h.kinds) blank_kind
 kinds_done v h s at i kinds inv t =
@@ -168,8 +156,3 @@ module _ (v : ℕ) (s : List ℕ) (k at i : ℕ) (inv : at ≡ sheet_kind_at v s
   at_turn len el =
       let long : len ≡ sheet_kind_length v (drop at s) = rw (← rest_of s at) el in
       rw (long, kind_next, inv)
-
-  pub at_end : i ≤ k → k ≤ i → at ≡ sheet_kind_at v s k
-  at_end l g =
-      let same : k ≡ i = omega arith in
-      rw same inv

@@ -6,11 +6,6 @@ use Rattle.convention.specs.Layout.{kinds_at, tries_at}
 use Rattle.convention.specs.Fields.{is_width, version_of, head_of}
 use Rattle.convention.specs.Sheets.{sheet_kind_length, sheet_kinds_no, sheet_kinds_length, sheet_kinds_of, sheet_kind_at, sheet_no, blank_kind}
 
--- Going through all kinds of a sheet s: their number, and where the last one ends if nothing is wrong with any.
-pub record KindsAre (v : ℕ) (h : Head) (s : List ℕ) (number end : ℕ) : Type 0 where
-  pub first : number ≡ sheet_kinds_no v h (drop kinds_at s) h.kinds
-  pub ends : number ≡ 0 → end ≡ sheet_kind_at v s h.kinds
-
 -- Half way through: `left` kinds are left, the next one at byte `at`, and those that are left give the number and the end of all.
 pub record KindsRest (v : ℕ) (h : Head) (s : List ℕ) (at left : ℕ) : Type 0 where
   pub within : at ≤ length s

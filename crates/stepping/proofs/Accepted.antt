@@ -8,8 +8,8 @@ use lib.Dec.{ltb}
 use lib.ListN.{length}
 use borrow.Author.Tests.{leb-true, ltb-false}
 use Rattle.convention.specs.declared.Offset.{Offset}
-use Rattle.convention.specs.declared.PlacingAnswer.{PlacingAnswer}
-use Rattle.convention.specs.declared.PlacingAnswer.TheVariants.{Placed, Unknown}
+use Rattle.convention.specs.Answers.{PlacingAnswer}
+use Rattle.convention.specs.Answers.{Placed, Unknown}
 use Rattle.convention.specs.Lists.{Steps, fault_from, stop_from, state_from, unknown_at, walk_answer, placed_or_refused, placing, KindsBelow}
 use Rattle.convention.proofs.Numbers.{or_zero, unless_zero}
 use Rattle.convention.proofs.Lists.{known_below, unknown_le}

@@ -1,182 +1,208 @@
 -- The call, over either way of placing: the tests of its list, each way to its answer in 01's order, and what the reader's number makes of it.
-use Prim.Native.Nat.{ℕ, zero, suc, ◌*◌, ◌/◌, ◌≤◌, ◌<◌}
+use Prim.Native.Nat.{ℕ, zero, suc, ◌+◌, ◌*◌, ◌/◌, ◌≤◌, ◌<◌}
 use mathlib.Core.Path.{◌≡◌, refl, sym, ◌∙◌}
 use mathlib.Core.Bool.{Bool, true, false, cond}
-use mathlib.Core.List.{List, [], ◌++◌}
+use mathlib.Core.List.{List, [], ◌∷◌, ◌++◌}
 use native.Mathlib.Omega.{arith}
 use native.Mathlib.Decide.{dec_le}
 use native.Mathlib.Nat.{zero-add, le_refl}
-use lib.Dec.{leb, ltb, eqb, lit<}
+use lib.Dec.{leb, ltb, lit<}
 use lib.ListN.{length, take, drop}
 use lib.Seq.{take_all, take_at}
-use borrow.Author.Tests.{lt-leb, le-leb, lt-ltb, le-ltb, leb-true, leb-false, eq-eqb, ne_eqb}
+use borrow.Author.Tests.{lt-leb, le-leb, lt-ltb, le-ltb, ltb-true, ltb-false, leb-true, leb-false}
+use Rattle.std.specs.Prelude.{Option, Some, None, Result, Ok, Err, MatchOption, position}
+use Rattle.std.specs.List.{position_or_len}
+use Rattle.std.proofs.lemmas.List.Recursion.{is_position_or_len}
 use Rattle.convention.specs.declared.Offset.{Offset}
-use Rattle.convention.specs.declared.PlacingAnswer.{PlacingAnswer}
-use Rattle.convention.specs.declared.PlacingAnswer.TheVariants.{Placed, Faulty, Unknown}
-use Rattle.convention.specs.Numbers.{argument_limit, or_else, unless}
-use Rattle.convention.specs.Bytes.{written}
-use Rattle.convention.specs.Lists.{Steps, record_length, records, unknown_at, list_no, walk_answer, placing, placing_memory}
+use Rattle.convention.specs.declared.Placed.{Placed}
+use Rattle.convention.specs.declared.Refusal.{Refusal}
+use Rattle.convention.specs.declared.Refusal.TheVariants.{Length, Version, Missing, Head, Kind, LeftOver, Transition, Arguments, States, Room, Row}
+use Rattle.convention.specs.declared.Unplaced.{Unplaced}
+use Rattle.convention.specs.declared.Unplaced.TheVariants.{Refused, Unknown, Faulty}
+use Rattle.convention.specs.Answers.{PlacingAnswer}
+use Rattle.convention.specs.Results.{refusal_number, placing_answer}
+use Rattle.convention.specs.Numbers.{or_else, unless}
+use Rattle.convention.specs.Lists.{Steps, record_length, records, unknown_at, list_no, placing, placing_memory}
 use Rattle.convention.proofs.Lists.{unknown_le}
-use Rattle.convention.proofs.Numbers.{or_zero, or_first, or_keeps, unless_zero}
-use Rattle.stepping.specs.declared.Decided.{Decided}
-use Rattle.stepping.specs.Walks.{WalkMakes, ListTested, refusal_answer, walk_bytes, records_with, RecordsRoom, DecidedIs, PlacingIs}
+use Rattle.convention.proofs.Numbers.{or_zero, or_keeps, unless_zero}
+use Rattle.convention.proofs.Results.{refusal_some}
+use Rattle.stepping.specs.Walks.{WalkMakes, ListTested, records_with, RecordsRoom, DecidedIs, PlacingIs}
 use Rattle.stepping.proofs.Walks.{records_long}
 
 -- The room is divided so that nothing overflows.
-pub list_no_lem : (limit n room many narrow number : ℕ) → many ≡ unless (leb n limit) 8 → narrow ≡ unless (leb n (room / record_length)) 12
-    → number ≡ or_else many narrow → number ≡ list_no limit n room
-list_no_lem limit n room many narrow number em en e = e ∙ rw (em, en, divided)
+pub divided : (n room : ℕ) → leb n (room / record_length) ≡ leb (record_length * n) room
+divided n room = elim (dec_le (record_length * n) room) [
+  | yes h ↦
+      let fits : n ≤ room / record_length = omega (arith, h) in
+      le-leb _ _ fits ∙ sym (le-leb _ _ h)
+  | no h ↦
+      let over : room < record_length * n = omega arith in
+      let less : room / record_length < n = omega (arith, over) in
+      lt-leb _ _ less ∙ sym (lt-leb _ _ over)
+]
+
+-- Looking for a kind of m or more is looking for the first that passes a test.
+unknown_first : (m : ℕ) (ks : List ℕ) → unknown_at m ks ≡ position_or_len (leb m) ks
+unfolding unknown_at
+unknown_first m = is_position_or_len (unknown_at m) (leb m) refl on
   where
-    divided : leb n (room / record_length) ≡ leb (record_length * n) room
-    divided = elim (dec_le (record_length * n) room) [
-      | yes h ↦
-          let fits : n ≤ room / record_length = omega (arith, h) in
-          le-leb _ _ fits ∙ sym (le-leb _ _ h)
-      | no h ↦
-          let over : room < record_length * n = omega arith in
-          let less : room / record_length < n = omega (arith, over) in
-          lt-leb _ _ less ∙ sym (lt-leb _ _ over)
+    on : (k : ℕ) (ks : List ℕ) → unknown_at m (k ∷ ks) ≡ cond (leb m k) 0 (1 + unknown_at m ks)
+    on k ks = elim (dec_le m k) [
+      | yes h ↦ rw (le-leb m k h, le-ltb k m h, unknown_at)
+      | no h ↦ let l : k < m = omega arith in rw (lt-leb m k l, lt-ltb k m l, unknown_at) (omega arith)
     ]
 
--- It is 8, 12 or 0, and never 9.
-not_nine : (limit n room : ℕ) → list_no limit n room ≡ 9 → ⊥
-not_nine limit n room = or_keeps (λ n. n ≡ 9 → ⊥) (unless (leb n limit) 8) _ (single (leb n limit) 8 (λ e. omega arith)) (single (leb (record_length * n) room) 12 (λ e. omega arith))
+unknown_found : (m : ℕ) (ks : List ℕ) (found : Option ℕ) → found ≡ position (leb m) ks
+    → MatchOption found (unknown_at m ks ≡ length ks) (λ at. (unknown_at m ks ≡ at) × (at < length ks))
+unknown_found m ks found e = rw (e, ← unknown_first m ks) (go (ltb (unknown_at m ks) (length ks)) refl)
   where
-    single : (b : Bool) (n : ℕ) → (n ≡ 9 → ⊥) → unless b n ≡ 9 → ⊥
+    go : (there : Bool) → ltb (unknown_at m ks) (length ks) ≡ there
+        → MatchOption (cond there (Some (unknown_at m ks)) None) (unknown_at m ks ≡ length ks) (λ at. (unknown_at m ks ≡ at) × (at < length ks))
+    go true e = (refl, ltb-true _ _ e)
+    go false e = omega (arith, unknown_le m ks, ltb-false _ _ e)
+
+-- The number before any kind is looked at is 8, 12 or 0, and never 9 or 10; nor is a refusal's number 9.
+not_those : (limit n room x : ℕ) → 9 ≤ x → x ≤ 10 → list_no limit n room ≡ x → ⊥
+not_those limit n room x low high =
+    or_keeps (λ n. n ≡ x → ⊥) (unless (leb n limit) 8) _ (single (leb n limit) 8 (λ e. omega arith)) (single (leb (record_length * n) room) 12 (λ e. omega arith))
+  where
+    single : (b : Bool) (n : ℕ) → (n ≡ x → ⊥) → unless b n ≡ x → ⊥
     single true n other e = omega arith
     single false n other e = other e
 
+not_nine : (refusal : Refusal) → refusal_number refusal ≡ 9 → ⊥
+not_nine Length e = omega arith
+not_nine Version e = omega arith
+not_nine Missing e = omega arith
+not_nine Head e = omega arith
+not_nine Kind e = omega arith
+not_nine LeftOver e = omega arith
+not_nine Transition e = omega arith
+not_nine Arguments e = omega arith
+not_nine States e = omega arith
+not_nine Room e = omega arith
+not_nine Row e = omega arith
+
 -- Each way through the tests: 8 or 12; 9; or none fails.
-module _ (limit m : ℕ) (ks : List ℕ) (room number : ℕ) (en : number ≡ list_no limit (length ks) room) where
-  pub tested_list : (at : ℕ) → (number ≡ 0 → ⊥) → ListTested limit m ks room number at
-  tested_list at nz = record {
-    is = or_first _ _ number en nz;
-    position = λ e. absurd (not_nine limit (length ks) room (sym en ∙ e));
-    listed = λ z. absurd (nz z);
-    roomy = λ z. absurd (nz z);
+module _ (limit m : ℕ) (ks : List ℕ) (room : ℕ) where
+  pub tested_list : (refusal : Refusal) → refusal_number refusal ≡ list_no limit (length ks) room
+      → ListTested limit m ks room {T = Unit {0}} (Err (Refused refusal))
+  tested_list refusal e = record {
+    is = first _ e (refusal_some refusal);
+    position = λ at same. absurd (let z : ◌≡◌ {A = Result (Unit {0}) Unplaced} (Err (Refused refusal)) (Err (Unknown at)) = same in cc);
+    listed = λ z. absurd (omega (arith, refusal_some refusal));
+    roomy = λ z. absurd (omega (arith, refusal_some refusal));
   }
+    where
+      first : (n : ℕ) → refusal_number refusal ≡ n → 0 < refusal_number refusal → refusal_number refusal ≡ or_else n (unless (leb (length ks) (unknown_at m ks)) 9)
+      first zero e h = absurd (omega arith)
+      first (suc n) e h = e
 
-  module _ (z : number ≡ 0) (at : ℕ) (ea : at ≡ unknown_at m ks) where
-    passed : list_no limit (length ks) room ≡ 0
-    passed = sym en ∙ z
-
-    pub tested_unknown : at < length ks → ListTested limit m ks room 9 at
-    tested_unknown h = record {
-      is = rw (passed, ← ea, lt-leb _ _ h);
-      position = λ _. ea;
-      listed = λ never. absurd (omega arith);
-      roomy = λ never. absurd (omega arith);
-    }
-
-    pub tested_known : length ks ≤ at → ListTested limit m ks room 0 at
-    tested_known h =
-        let both : (unless (leb (length ks) limit) 8 ≡ 0) × (unless (leb (record_length * length ks) room) 12 ≡ 0) = or_zero _ _ passed in
+  module _ (passed : 0 ≡ list_no limit (length ks) room) where
+    pub tested_unknown : (at : ℕ) → Some at ≡ position (leb m) ks → ListTested limit m ks room {T = Unit {0}} (Err (Unknown at))
+    tested_unknown at found =
+        let there : (unknown_at m ks ≡ at) × (at < length ks) = unknown_found m ks (Some at) found in
         record {
-          is = rw (passed, ← ea, le-leb _ _ h);
-          position = λ never. absurd (omega arith);
-          listed = λ _. record { known = omega (arith, ea, unknown_le m ks); short = leb-true _ limit (unless_zero _ 8 (lit< tt) both.0) };
+          is = rw (← passed, there.0, lt-leb _ _ there.1);
+          position = λ at' same. let z : ◌≡◌ {A = Result (Unit {0}) Unplaced} (Err (Unknown at)) (Err (Unknown at')) = same in cc;
+          listed = λ never. absurd (omega arith);
+          roomy = λ never. absurd (omega arith);
+        }
+
+    pub tested_known : None ≡ position (leb m) ks → ListTested limit m ks room {T = Unit {0}} (Ok tt)
+    tested_known found =
+        let known : unknown_at m ks ≡ length ks = unknown_found m ks None found in
+        let both : (unless (leb (length ks) limit) 8 ≡ 0) × (unless (leb (record_length * length ks) room) 12 ≡ 0) = or_zero _ _ (sym passed) in
+        record {
+          is = rw (← passed, known, le-leb _ _ (le_refl (length ks)));
+          position = λ at same. absurd (let z : ◌≡◌ {A = Result (Unit {0}) Unplaced} (Ok tt) (Err (Unknown at)) = same in cc);
+          listed = λ _. record { known = known; short = leb-true _ limit (unless_zero _ 8 (lit< tt) both.0) };
           roomy = λ _. leb-true _ room (unless_zero _ 12 (lit< tt) both.1);
         }
 
--- What a walk decides: success and a record for each argument, or 10 and none.
-pub outcome_placed : (fault stop count : ℕ) (p : Offset) → fault ≡ 0
-    → ◌≡◌ {A = Decided} (record { answer = Placed count p; bytes = record_length * count })
-    (record { answer = walk_answer fault stop count p; bytes = walk_bytes fault count })
-outcome_placed fault stop count p z = rw z
-
-pub outcome_faulty : (fault stop count : ℕ) (p : Offset) → (fault ≡ 0 → ⊥)
-    → ◌≡◌ {A = Decided} (record { answer = Faulty stop fault; bytes = 0 }) (record { answer = walk_answer fault stop count p; bytes = walk_bytes fault count })
-outcome_faulty zero stop count p nz = absurd (nz refl)
-outcome_faulty (suc fault) stop count p nz = refl
-
--- What is decided of a list that was tested.
-module _ (limit m : ℕ) (M : Steps) (ks : List ℕ) (room number at : ℕ) (tests : ListTested limit m ks room number at) where
-  -- A test fails.
-  pub list_refused : (d : Decided) (made : List ℕ) → (number ≡ 0 → ⊥) → d ≡ record { answer = refusal_answer number at; bytes = 0 }
-      → DecidedIs limit m M ks room d made
+-- What is decided of a list that failed a test; the tests were asked with the placer's number of kinds.
+module _ (limit m : ℕ) (M : Steps) (ks : List ℕ) (room : ℕ) where
+  refused_list : (unplaced : Unplaced) (made : List ℕ) → ListTested limit m ks room {T = Unit {0}} (Err unplaced) → DecidedIs limit m M ks room (Err unplaced) made
   unfolding placing records_with
-  list_refused d made nz ed = rw ed (record { answers = go _ _ refl refl; makes = none (eqb number 9); there = omega arith; fits = omega arith })
+  refused_list (Refused refusal) made tests = record { answers = go _ refl tests.is; makes = refl; there = omega arith; fits = omega arith }
     where
-      none : (nine : Bool) → [] ≡ records_with (cond nine (Unknown at) (PlacingAnswer.Refused number)) M ks
-      none true = refl
-      none false = refl
+      other : (known : Bool) → refusal_number refusal ≡ unless known 9 → ⊥
+      other true e = omega (arith, refusal_some refusal)
+      other false e = not_nine refusal e
 
-      go : (first : ℕ) (known : Bool) → list_no limit (length ks) room ≡ first → leb (length ks) (unknown_at m ks) ≡ known
-          → refusal_answer number at ≡ placing limit 0 m M ks room
-      go zero true e k = absurd (nz (tests.is ∙ rw (e, k)))
-      go zero false e k =
-          let nine : number ≡ 9 = tests.is ∙ rw (e, k) in
-          rw (eq-eqb _ _ nine, e, lt-ltb _ _ (leb-false _ _ k), ← tests.position nine)
-      go (suc first) known e k =
-          let is : number ≡ suc first = tests.is ∙ rw e in
-          rw (ne_eqb number 9 (λ nine. not_nine limit (length ks) room (e ∙ (sym is ∙ nine))), e, is)
+      go : (first : ℕ) → list_no limit (length ks) room ≡ first → refusal_number refusal ≡ or_else first (unless (leb (length ks) (unknown_at m ks)) 9)
+          → PlacingAnswer.Refused (refusal_number refusal) ≡ placing limit 0 m M ks room
+      go zero e is = absurd (other _ is)
+      go (suc first) e is = rw (e, is)
+  refused_list (Unknown at) made tests = record { answers = go _ refl (leb (length ks) (unknown_at m ks)) refl tests.is; makes = refl; there = omega arith; fits = omega arith }
+    where
+      go : (first : ℕ) → list_no limit (length ks) room ≡ first → (known : Bool) → leb (length ks) (unknown_at m ks) ≡ known → 9 ≡ or_else first (unless known 9)
+          → PlacingAnswer.Unknown at ≡ placing limit 0 m M ks room
+      go zero e true k is = absurd (omega arith)
+      go zero e false k is = rw (e, lt-ltb _ _ (leb-false _ _ k), ← tests.position at refl)
+      go (suc first) e known k is = absurd (not_those limit (length ks) room 9 (omega arith) (omega arith) (e ∙ sym is))
+  refused_list (Faulty at fault) made tests = absurd (go _ refl (leb (length ks) (unknown_at m ks)) tests.is)
+    where
+      go : (first : ℕ) → list_no limit (length ks) room ≡ first → (known : Bool) → 10 ≡ or_else first (unless known 9) → ⊥
+      go zero e true is = omega arith
+      go zero e false is = omega arith
+      go (suc first) e known is = not_those limit (length ks) room 10 (omega arith) (omega arith) (e ∙ sym is)
 
-  module _ (z : number ≡ 0) where
-    through : list_no limit (length ks) room ≡ 0
-    through = (or_zero _ _ (sym tests.is ∙ z)).0
+  pub list_refused : (unplaced : Unplaced) (made : List ℕ) (kinds : ℕ) → ListTested limit kinds ks room {T = Unit {0}} (Err unplaced) → kinds ≡ m
+      → DecidedIs limit m M ks room (Err unplaced) made
+  list_refused unplaced made kinds tests ek = refused_list unplaced made (rw ek at tests)
 
-    -- None fails: the records have their memory.
-    pub records_room : (long : ℕ) → RecordsRoom limit ks room long → record_length * length ks ≤ long
-    records_room long h = h through
+-- A list that passed its tests can be walked, and the walk decides.
+module _ (limit m : ℕ) (M : Steps) (ks : List ℕ) (room kinds : ℕ) (x : Unit {0}) (tests : ListTested limit kinds ks room {T = Unit {0}} (Ok x)) (ek : kinds ≡ m) where
+  through : list_no limit (length ks) room ≡ 0
+  through = (or_zero _ _ (sym tests.is)).0
 
-    -- The walk decides.
-    pub list_walked : (before made : List ℕ) (fault stop : ℕ) (p : Offset) (d : Decided) → RecordsRoom limit ks room (length before)
-        → WalkMakes M ks before fault stop p made → d ≡ record { answer = walk_answer fault stop (length ks) p; bytes = walk_bytes fault (length ks) }
-        → DecidedIs limit m M ks room d made
+  known : ltb (unknown_at m ks) (length ks) ≡ false
+  known = rw (← ek) (le-ltb (unknown_at kinds ks) (length ks) (omega (arith, (tests.listed refl).known)))
+
+  module _ (before made : List ℕ) (h : RecordsRoom limit ks room (length before)) where
+    pub list_faulty : (unplaced : Unplaced) → WalkMakes M ks before (Err unplaced) made → DecidedIs limit m M ks room (Err unplaced) made
     unfolding placing records_with
-    list_walked before made fault stop p d h walk ed = rw ed (go fault walk)
+    list_faulty unplaced walk = record { answers = walk.answers ∙ rw (through, known); makes = none unplaced; there = omega arith; fits = omega arith }
       where
-        known : ltb (unknown_at m ks) (length ks) ≡ false
-        known = le-ltb (unknown_at m ks) (length ks) (omega (arith, (tests.listed z).known))
+        none : (unplaced : Unplaced) → [] ≡ records_with (placing_answer (Err unplaced)) M ks
+        none (Refused refusal) = refl
+        none (Unknown at) = refl
+        none (Faulty at fault) = refl
 
-        there : record_length * length ks ≤ length made
-        there = rw walk.long (h through)
+    pub list_placed : (p : Offset) → WalkMakes M ks before (Ok p) made → DecidedIs limit m M ks room (Ok (record { arguments = length ks; p = p })) made
+    unfolding placing records_with
+    list_placed p walk =
+        let long : length (records M ks) ≡ record_length * length ks = records_long M ks in
+        record {
+          answers = walk.answers ∙ rw (through, known);
+          makes = rw (walk.made p refl, ← long) (take_at (records M ks) _ (length (records M ks)) refl);
+          there = rw walk.long (h through);
+          fits = tests.roomy refl;
+        }
 
-        go : (fault : ℕ) → WalkMakes M ks before fault stop p made
-            → DecidedIs limit m M ks room (record { answer = walk_answer fault stop (length ks) p; bytes = walk_bytes fault (length ks) }) made
-        go zero w =
-            let long : length (records M ks) ≡ record_length * length ks = records_long M ks in
-            record {
-              answers = rw (through, known, ← w.first, w.final refl);
-              makes = rw (w.made refl, ← long) (take_at (records M ks) _ (length (records M ks)) refl);
-              there = there;
-              fits = tests.roomy z;
-            }
-        go (suc fault) w = record { answers = rw (through, known, ← w.first, ← w.position); makes = refl; there = omega arith; fits = omega arith }
+-- What was decided is copied, and with a refusal nothing is: the call's answer, and the lent memory afterwards.
+module _ (limit m : ℕ) (M : Steps) (ks before made : List ℕ) where
+  pub list_written : (placed : Placed) (after : List ℕ) → DecidedIs limit m M ks (length before) (Ok placed) made
+      → after ≡ take (length (take (record_length * placed.arguments) made)) (take (record_length * placed.arguments) made)
+      ++ drop (length (take (record_length * placed.arguments) made)) before
+      → PlacingIs limit m M ks before (Ok placed) after
+  unfolding placing_memory records_with
+  list_written placed after is ea = record { answers = is.answers; memory = ea ∙ rw (is.makes, take_all _ (records M ks) (le_refl _), zero-add) }
 
--- A list that passed its tests is short enough.
-pub list_short : (limit m : ℕ) (ks : List ℕ) (room number at : ℕ) → ListTested limit m ks room number at → number ≡ 0 → length ks ≤ limit
-list_short limit m ks room number at tests z = (tests.listed z).short
-
--- Memory for the records of any list that a call takes.
-pub long_room : (ks : List ℕ) (room : ℕ) → RecordsRoom argument_limit ks room (record_length * argument_limit)
-long_room ks room passed = omega (arith, leb-true (length ks) argument_limit (unless_zero _ 8 (lit< tt) (or_zero _ _ passed).0))
-
--- What was decided is copied: the call's answer, and the lent memory afterwards.
-pub part_written : (part before after : List ℕ) → after ≡ take (length part) part ++ drop (length part) before → after ≡ written before 0 part
-part_written part before after e = e ∙ rw (take_all (length part) part (le_refl _), zero-add)
-
-pub list_written : (limit m : ℕ) (M : Steps) (ks before made after : List ℕ) (d : Decided) → DecidedIs limit m M ks (length before) d made
-    → after ≡ written before 0 (take d.bytes made) → PlacingIs limit m M ks before d.answer after
-unfolding placing_memory records_with
-list_written limit m M ks before made after d is ea = record { answers = is.answers; memory = memory }
-  where
-    copied : after ≡ written before 0 (records_with d.answer M ks)
-    copied = ea ∙ rw is.makes
-
-    go : (answer : PlacingAnswer) → written before 0 (records_with answer M ks) ≡ placing_memory answer M ks before
-    go (Placed n p) = refl
-    go (Unknown at) = refl
-    go (Faulty at fault) = refl
-    go (PlacingAnswer.Refused n) = refl
-
-    memory : after ≡ placing_memory d.answer M ks before
-    memory = copied ∙ go d.answer
+  pub list_unwritten : (unplaced : Unplaced) → DecidedIs limit m M ks (length before) (Err unplaced) made → PlacingIs limit m M ks before (Err unplaced) before
+  unfolding placing_memory
+  list_unwritten unplaced is = record { answers = is.answers; memory = none unplaced }
+    where
+      none : (unplaced : Unplaced) → before ≡ placing_memory (placing_answer (Err unplaced)) M ks before
+      none (Refused refusal) = refl
+      none (Unknown at) = refl
+      none (Faulty at fault) = refl
 
 -- What reading gave comes first: no number, and the call's answer and memory are those of the list; or one, and nothing is written.
 module _ (limit number m : ℕ) (M : Steps) (ks before : List ℕ) where
-  module _ (z : number ≡ 0) (r : PlacingAnswer) (after : List ℕ) (is : PlacingIs limit m M ks before r after) where
-    pub read_answer : r ≡ placing limit number m M ks (length before)
+  module _ (z : number ≡ 0) (result : Result Placed Unplaced) (after : List ℕ) (is : PlacingIs limit m M ks before result after) where
+    pub read_answer : placing_answer result ≡ placing limit number m M ks (length before)
     read_answer = rw z is.answers
 
     pub read_memory : after ≡ placing_memory (placing limit number m M ks (length before)) M ks before

@@ -1,6 +1,4 @@
 pub mod Offsets
-pub mod Ends
-pub mod Lists
 pub mod Records
 pub mod Runs
 pub mod Sets

@@ -1,6 +1,6 @@
 -- Laws of sets of registers as numbers: which runs are free, and what marking one makes of the set, by its bits.
 use Prim.Native.Nat.{ℕ, zero, suc, ◌+◌, ◌-◌, ◌*◌, ◌/◌, ◌%◌, ◌≤◌, ◌^◌, min, max, zero-le}
-use native.Mathlib.Nat.{two-pow-succ, mul-one, one-mul, zero-mul, min-zero, max-zero, suc-add, eq-or-lt_of_le}
+use native.Mathlib.Nat.{two-pow-succ, mul-one, zero-mul, min-zero, max-zero, suc-add, eq-or-lt_of_le}
 use native.Mathlib.Omega.{arith}
 use mathlib.Core.Path.{◌≡◌, refl, ap, ap₂, sym, ◌∙◌}
 use mathlib.Core.Bool.{Bool, true, false, true≢false, false≢true}
@@ -8,7 +8,7 @@ use mathlib.Core.List.{List, [], ◌∷◌}
 use mathlib.Core.Logic.{◌⊎◌, inl, inr}
 use borrow.Author.Tests.{eqb-true, ne_eqb}
 use lib.Dec.{eqb}
-use lib.Pow.{pow_pos, ones_lt, shl_exact}
+use lib.Pow.{pow_pos}
 use lib.Bits.{bit_and, bit_or, and_step, or_step, and_zero_r, or_zero_r, or_comm, and_shr, or_shr, shifted_half, shifted_even}
 use lib.ListN.{length, get_or, set, replicate}
 use lib.Seq.{sets}
@@ -185,13 +185,3 @@ pub set_none : (n : ℕ) → set_of n 0 ≡ replicate n false
 unfolding set_of
 set_none zero = refl
 set_none (suc n) = ap (λ (l : List Bool). false ∷ l) (set_none n)
-
--- The shifts that make a run's number lose nothing.
-up : (count : ℕ) → count ≤ 16 → (1 * 2 ^ count) % 2 ^ 32 ≡ 2 ^ count
-up count h = shl_exact 1 count 32 (omega arith) (omega arith) ∙ one-mul (2 ^ count)
-
-pub run_pos : (first count : ℕ) → first + count ≤ 16 → 1 ≤ (1 * 2 ^ count) % 2 ^ 32
-run_pos first count h = rw (up count (omega arith)) (pow_pos count)
-
-pub run_is : (first count : ℕ) → first + count ≤ 16 → (((1 * 2 ^ count) % 2 ^ 32 - 1) * 2 ^ first) % 2 ^ 32 ≡ run_bits first count
-run_is first count h = rw (up count (omega arith)) (shl_exact count first 32 (ones_lt count) (omega arith))

@@ -1,17 +1,24 @@
 -- One turn of the walk over a list, and each way to the answer, over either way of placing: what is left of the list answers the whole.
-use Prim.Native.Nat.{ℕ, ◌+◌, ◌*◌, ◌≤◌, ◌<◌}
+use Prim.Native.Nat.{ℕ, zero, suc, ◌+◌, ◌*◌, ◌≤◌, ◌<◌}
 use mathlib.Core.Path.{◌≡◌, refl, sym, ap, ◌∙◌}
 use mathlib.Core.List.{List, ◌++◌, append_assoc}
 use native.Mathlib.Omega.{arith}
 use native.Mathlib.Nat.{zero-add, le_refl}
 use lib.ListN.{length, get_or, take, drop}
 use lib.Seq.{take-add, take_all, drop-drop, take_at, drop_at, length-take-le}
+use Rattle.std.specs.Prelude.{Result, Ok, Err}
 use Rattle.convention.specs.declared.Offset.{Offset}
 use Rattle.convention.specs.declared.Placement.{Placement}
 use Rattle.convention.specs.Bytes.{written}
-use Rattle.convention.specs.Lists.{Steps, places_from, record_of, records_of, record_length, records}
+use Rattle.convention.specs.Lists.{Steps, fault_from, stop_from, state_from, walk_answer, places_from, record_of, records_of, record_length, records}
+use Rattle.convention.specs.declared.Unplaced.{Unplaced}
+use Rattle.convention.specs.declared.Unplaced.TheVariants.{Faulty}
+use Rattle.convention.specs.declared.Fault.{Fault}
+use Rattle.convention.specs.Answers.{PlacingAnswer}
+use Rattle.convention.specs.Results.{fault_number}
+use Rattle.convention.proofs.Results.{fault_some}
 use Rattle.convention.proofs.Bytes.{length_written}
-use Rattle.convention.proofs.Lists.{fault_turn, fault_hit, fault_end, stop_turn, stop_hit, stop_end, state_turn, state_end, records_turn, records_length, places_length}
+use Rattle.convention.proofs.Lists.{fault_turn, fault_hit, fault_end, stop_turn, stop_hit, state_turn, state_end, records_turn, records_length, places_length}
 use Rattle.stepping.specs.Walks.{MakeRest, WalkMakes}
 
 -- One more run written after the first n bytes of R, which stand in front.
@@ -64,25 +71,29 @@ module _ (M : Steps) (ks before : List ℕ) where
           long = rw ea (length_written out (record_length * i) (record_of place) (make_room h room)) ∙ half.long;
         }
 
-    pub make_hit : (after : List ℕ) (fault : ℕ) (p : Offset) → i < length ks → fault ≡ M.fault s (get_or ks i 0) → (fault ≡ 0 → ⊥)
-        → length after ≡ length out → WalkMakes M ks before fault i p after
-    make_hit after fault p h ef nz long =
-        let some : 0 < M.fault s (get_or ks i 0) = rw (← ef) (omega (arith, nz)) in
+    pub make_hit : (after : List ℕ) (fault : Fault) → i < length ks → fault_number fault ≡ M.fault s (get_or ks i 0) → length after ≡ length out
+        → WalkMakes M ks before (Err (Faulty i fault)) after
+    make_hit after fault h ef long =
+        let some : 0 < M.fault s (get_or ks i 0) = rw (← ef) (fault_some fault) in
+        let first : fault_number fault ≡ fault_from M M.begin ks = ef ∙ (sym (fault_hit M s ks i h some) ∙ half.fault) in
+        let position : i ≡ stop_from M M.begin ks = omega (arith, stop_hit M s ks i h some, half.stop) in
         record {
-          first = ef ∙ (sym (fault_hit M s ks i h some) ∙ half.fault);
-          position = omega (arith, stop_hit M s ks i h some, half.stop);
-          final = λ z. absurd (nz z);
-          made = λ z. absurd (nz z);
+          answers = rw (← first, ← position) (faulty_answer i (fault_number fault) (fault_some fault));
+          made = λ p never. absurd (let z : ◌≡◌ {A = Result Offset Unplaced} (Err (Faulty i fault)) (Ok p) = never in cc);
           long = long ∙ half.long;
         }
+      where
+        faulty_answer : (i n : ℕ) → 0 < n → PlacingAnswer.Faulty i n ≡ walk_answer n i (length ks) (M.p (state_from M M.begin ks))
+        faulty_answer i zero l = absurd (omega arith)
+        faulty_answer i (suc n) l = refl
 
-    pub make_end : (p : Offset) → length ks ≤ i → p ≡ M.p s → WalkMakes M ks before 0 i p out
-    make_end p h ep =
+    pub make_end : length ks ≤ i → WalkMakes M ks before (Ok (M.p s)) out
+    make_end h =
         let all : record_length * i ≡ length (records M ks) = omega (arith, records_long M ks, half.within) in
+        let none : 0 ≡ fault_from M M.begin ks = sym (fault_end M s ks i h) ∙ half.fault in
+        let state : s ≡ state_from M M.begin ks = sym (state_end M s ks i h) ∙ half.state in
         record {
-          first = sym (fault_end M s ks i h) ∙ half.fault;
-          position = omega (arith, stop_end M s ks i h, half.stop);
-          final = λ _. ep ∙ ap M.p (sym (state_end M s ks i h) ∙ half.state);
-          made = λ _. half.made ∙ rw (all, take_all (length (records M ks)) (records M ks) (le_refl _), zero-add);
+          answers = rw (← none, ← state);
+          made = λ p e. half.made ∙ rw (all, take_all (length (records M ks)) (records M ks) (le_refl _), zero-add);
           long = half.long;
         }

@@ -1,35 +1,37 @@
 // What placing by the rules and placing by a table have in common: sets and runs of registers, the least offset, the tests of a
-// list's length, room and kinds, what a walk decides and how that is written, a placement's record, and what a placement takes.
+// list's length, room and kinds, what places lists and how that is decided and written, a placement's record, and what a placement
+// takes.
 #![tactic(auto)]
 
-ghost use Rattle.std.specs.Prelude.{◌≡◌, ◌+◌, ◌%◌, ◌≤◌, ◌<◌, ◌^◌, true, length, take};
+ghost use Rattle.std.specs.Prelude.{ℕ, ◌≡◌, ◌+◌, ◌*◌, ◌%◌, ◌≤◌, ◌<◌, ◌^◌, true, leb, length, position};
 ghost use Rattle.convention.specs.Fields.{is_modulus};
 ghost use Rattle.convention.specs.Offsets.{IsLeast, least_offset};
 ghost use Rattle.convention.specs.Bytes.{written};
-ghost use Rattle.convention.specs.Lists.{record_length, unknown_at, list_no, parts_of, record_of, walk_answer};
-ghost use Rattle.convention.specs.Rules.{free_run, mark_run, place_fault, place_taken, place_p};
+ghost use Rattle.convention.specs.Lists.{Steps, record_length, list_no, record_of};
+ghost use Rattle.convention.specs.Results.{number_of};
+ghost use Rattle.convention.specs.Rules.{free_run, mark_run, place_taken, place_p};
 ghost use Rattle.convention.specs.Numbers.{argument_limit};
 ghost use Rattle.stepping.specs.Ends.{run_end, stack_end};
 ghost use Rattle.stepping.specs.Sets.{set_of, run_bits};
-ghost use Rattle.stepping.specs.Walks.{ListTested, refusal_answer, walk_bytes};
+ghost use Rattle.stepping.specs.Walks.{ListTested, WalkAsks, WalkMakes, RecordsRoom, DecidedIs, PlacingIs};
 
 use convention::{
-    ARGUMENT_LIMIT, Offset, Placement, PlacementParts, PlacingAnswer, RECORD_LENGTH, Reg,
+    ARGUMENT_LIMIT, Offset, Placed, Placement, PlacementParts, RECORD_LENGTH, Refusal, Reg,
+    Unplaced,
 };
 
-// The most arguments of a list that counts as short, `short_list`. To clear the memory for the records of any list would take longer
+// The most arguments of a list that counts as short. To clear the memory for the records of any list would take longer
 // than to place a short one.
-pub const SHORT_LIST: usize = 32;
+const SHORT_LIST: usize = 32;
 
-// What going through a list found: the fault of the first faulty step and its position; or 0, and the final p.
-#[derive(Clone, Copy)]
-pub struct Walk {
-    pub fault: u8,
-    pub stop: usize,
-    pub p: Offset,
-}
+// How long the memory for the records of a short list is.
+const SHORT_RECORDS: usize = RECORD_LENGTH * SHORT_LIST;
 
-// The set of the `count` registers from `first` on, a bit for each.
+// How long the memory for the records of any list that a call places is.
+const LONG_RECORDS: usize = RECORD_LENGTH * ARGUMENT_LIMIT;
+
+// The set of the `count` registers from `first` on, a bit for each. A set is a number and no type of its own: crates/certifying keeps
+// marks above its bits, and a type would be taken apart for each `|` and `&`, which are the library's.
 pub fn run(first: Reg, count: u8) -> u32
     requires { first.0 + count ≤ 16 }
     ensures { result ≡ run_bits first.0 count }
@@ -38,6 +40,7 @@ pub fn run(first: Reg, count: u8) -> u32
     ((1u32 << count as u32) - 1) << at
 }
 
+// (That a run ends within the sixteen is asked of the arguments and no type of run: a table's may be wrong, and is tested first.)
 // Whether the run of `count` registers from `first` on is wholly available, where the registers of `taken` are not.
 pub fn free_run(taken: u32, first: Reg, count: u8) -> bool
     requires { first.0 + count ≤ 16 }
@@ -54,7 +57,8 @@ pub fn mark_run(taken: u32, first: Reg, count: u8) -> u32
     taken | run(first, count)
 }
 
-// The remainder of `x` by a modulus, which is a power of two: what a mask keeps.
+// The remainder of `x` by a modulus, which is a power of two: what a mask keeps. It is asked and no type: a head holds the byte that
+// was read, right or wrong, and of the crates above building alone asks for it more than once.
 pub fn remainder(x: u32, modulus: u32) -> u32
     requires { is_modulus modulus ≡ true }
     ensures { result ≡ x % modulus }
@@ -64,6 +68,7 @@ pub fn remainder(x: u32, modulus: u32) -> u32
 
 // The least offset, at least `p`, whose remainder by `modulus` is `residue`. It lies less than sixteen bytes after `p`, and that is
 // the room that it asks for.
+#[tactic(auto, using(crate::proofs::Offsets::sum_is, crate::proofs::Offsets::sum_least))]
 pub fn least_offset(modulus: u8, residue: u8, p: Offset) -> Offset
     requires { (is_modulus modulus ≡ true) × (residue < modulus) × (p.0 + 16 < 2 ^ 32) }
     ensures result_value { result.0 ≡ least_offset modulus residue p.0 }
@@ -74,149 +79,127 @@ pub fn least_offset(modulus: u8, residue: u8, p: Offset) -> Offset
     Offset(p.0 + remainder(m + r - remainder(p.0, m), m))
 }
 
-// The number of a list of so many arguments with so much room, before its kinds are looked at: 8 where there are more than
-// a call places, then 12 where their records have no room.
-fn list_no(arguments: usize, room: usize) -> u8
-    ensures { result ≡ list_no argument_limit arguments room }
+// Refuses a list of so many arguments with so much room, before its kinds are looked at: 8 where there are more than a call
+// places, then 12 where their records have no room.
+#[tactic(auto, using(convention::proofs::Results::tests, crate::proofs::Calls::divided))]
+fn check_size(arguments: usize, room: usize) -> Result<(), Refusal>
+    ensures { number_of result ≡ list_no argument_limit arguments room }
 {
-    let many = fields::unless(arguments <= ARGUMENT_LIMIT, 8);
-    let narrow = fields::unless(arguments <= room / RECORD_LENGTH, 12);
-    fields::or_else(many, narrow)
+    fields::check(arguments <= ARGUMENT_LIMIT, Refusal::Arguments)?;
+    fields::check(arguments <= room / RECORD_LENGTH, Refusal::Room)
 }
 
-// The first position of a kind number of `kinds` or more; the list's length where there is none.
-fn unknown_at(kinds: u8, list: &[u8]) -> usize
-    ensures { result ≡ unknown_at kinds list.now }
+// The first position of a kind number of `kinds` or more.
+fn unknown_at(kinds: u8, list: &[u8]) -> Option<usize>
+    ensures { result ≡ position (leb kinds) list.now }
 {
-    let mut at = 0;
-    while at < list.len() {
-        if kinds <= list[at] {
-            return at;
-        }
-        at += 1;
-    }
-    at
+    list.iter().position(|&kind| kinds <= kind)
 }
 
-// The number of the first test that a list fails, with 9 the position of its first unknown kind; or 0.
-#[derive(Clone, Copy)]
-pub struct Tested {
-    pub number: u8,
-    pub at: usize,
-}
-
-// Tests a list before it is placed, in 01's order: 8, 12, 9. A list of number 0 has known kinds alone, is short enough, and
+// Tests a list before it is placed, in 01's order: 8, 12, 9. A list that passes has known kinds alone, is short enough, and
 // its records have room.
-pub fn test_list(kinds: u8, list: &[u8], room: usize) -> Tested
-    ensures { ListTested argument_limit kinds list.now room result.number result.at }
+#[tactic(auto, using(crate::proofs::Calls::tested_list, crate::proofs::Calls::tested_unknown, crate::proofs::Calls::tested_known))]
+pub fn test_list(kinds: u8, list: &[u8], room: usize) -> Result<(), Unplaced>
+    ensures { ListTested argument_limit kinds list.now room result }
 {
-    let n = list.len();
-    let number = list_no(n, room);
-    if number != 0 {
-        return Tested { number, at: 0 };
-    }
-    let at = unknown_at(kinds, list);
-    if at < n {
-        return Tested { number: 9, at };
-    }
-    Tested { number: 0, at }
-}
-
-// What was decided of a list: the answer, and how many bytes of records were made, 0 where it is a refusal.
-#[derive(Clone, Copy)]
-pub struct Decided {
-    pub answer: PlacingAnswer,
-    pub bytes: usize,
-}
-
-// What is decided of a list that failed a test.
-pub fn refusal(tested: Tested) -> Decided
-    ensures { result ≡ record { answer = refusal_answer tested.number tested.at; bytes = 0 } }
-{
-    if tested.number == 9 {
-        return Decided {
-            answer: PlacingAnswer::Unknown(tested.at),
-            bytes: 0,
-        };
-    }
-    Decided {
-        answer: PlacingAnswer::Refused(tested.number),
-        bytes: 0,
+    check_size(list.len(), room)?;
+    match unknown_at(kinds, list) {
+        Some(at) => Err(Unplaced::Unknown(at)),
+        None => Ok(()),
     }
 }
 
-// What a walk decides: number 10, or success with the number of arguments and the final p, and a record for each.
-pub fn outcome(walked: Walk, count: usize) -> Decided
-    requires { count ≤ argument_limit }
-    ensures { result ≡ record { answer = walk_answer walked.fault walked.stop count walked.p; bytes = walk_bytes walked.fault count } }
-{
-    if walked.fault != 0 {
-        return Decided {
-            answer: PlacingAnswer::Faulty(walked.stop, walked.fault),
-            bytes: 0,
-        };
-    }
-    let p = walked.p;
-    let bytes = RECORD_LENGTH * count;
-    Decided {
-        answer: PlacingAnswer::Placed(count, p),
-        bytes,
-    }
+// What places lists: a sheet that was read, by its rules, or a table. All that `decide` and `place_list` promise of it is said by
+// its number of kinds and its way of placing.
+pub trait Placer {
+    ghost kind_count: { Self → ℕ };
+
+    ghost way: { Self → Steps };
+
+    // How many kinds it has.
+    fn kinds(&self) -> u8
+        ensures { result ≡ kind_count self.now };
+
+    // Goes through a list of known kinds up to its first faulty step, and makes the records of the arguments before it in
+    // `records`. Answers the final p, or that step's position and fault.
+    fn walk(&self, list: &[u8], records: &mut [u8]) -> Result<Offset, Unplaced>
+        requires { WalkAsks (kind_count self.now) list.now (length records.old) }
+        ensures { WalkMakes (way self.now) list.now records.old result records.new };
 }
 
-// Writes what was decided: the records that were made, into the first bytes of `out`; nothing where the answer is a refusal.
-pub fn write(decided: Decided, records: &[u8], out: &mut [u8])
-    requires { (decided.bytes ≤ length records.now) × (decided.bytes ≤ length out.old) }
-    ensures { out.new ≡ written out.old 0 (take decided.bytes records.now) }
+// Decides how a list is placed, with so much room for its records: the answer, in 01's order of refusals, 8, 12, 9, 10; and the
+// records, where it is success, in the first bytes of `records`, which a refusal may have written to.
+pub fn decide<P: Placer>(
+    placer: &P,
+    list: &[u8],
+    room: usize,
+    records: &mut [u8],
+) -> Result<Placed, Unplaced>
+    requires { RecordsRoom argument_limit list.now room (length records.old) }
+    ensures { DecidedIs argument_limit (P.kind_count placer.now) (P.way placer.now) list.now room result records.new }
 {
-    let end = decided.bytes;
-    fields::copy(&records[..end], out);
+    test_list(placer.kinds(), list, room)?;
+    let p = placer.walk(list, records)?;
+    Ok(Placed {
+        arguments: list.len(),
+        p,
+    })
 }
 
-// What a placement is made of. That a first register is a byte is said here, since its number has room for an offset.
-pub fn parts_of(place: Placement) -> PlacementParts
-    ensures value { result ≡ parts_of place }
-    ensures number_bound { (result.form ≡ 2 → ⊥) → result.number < 256 }
+// (The placer, the list and the output are the call's own arguments, handed on as they came.)
+// Places a list: it is decided in `records`, and the records of a list that is placed are copied to `out`.
+#[tactic(auto, using(crate::proofs::Calls::list_unwritten))]
+fn place_in<P: Placer>(
+    placer: &P,
+    list: &[u8],
+    records: &mut [u8],
+    out: &mut [u8],
+) -> Result<Placed, Unplaced>
+    requires { RecordsRoom argument_limit list.now (length out.old) (length records.old) }
+    ensures { PlacingIs argument_limit (P.kind_count placer.now) (P.way placer.now) list.now out.old result out.new }
 {
-    match place {
-        Placement::Registers(first, count) => PlacementParts {
-            form: 1,
-            number: first.0 as u32,
-            count,
-        },
-        Placement::Stack(offset, count) => PlacementParts {
-            form: 2,
-            number: offset.0,
-            count,
-        },
-        Placement::Nowhere => PlacementParts {
-            form: 0,
-            number: 0,
-            count: 0,
-        },
+    let placed = decide(placer, list, out.len(), records)?;
+    fields::copy(&records[..RECORD_LENGTH * placed.arguments], out);
+    Ok(placed)
+}
+
+// Places a list, with N bytes of memory for its records, which are no more than those of the longest list.
+fn place_with<P: Placer, const N: usize>(
+    placer: &P,
+    list: &[u8],
+    out: &mut [u8],
+) -> Result<Placed, Unplaced>
+    requires records_room { RecordsRoom argument_limit list.now (length out.old) N }
+    requires most { N ≤ record_length * argument_limit }
+    ensures { PlacingIs argument_limit (P.kind_count placer.now) (P.way placer.now) list.now out.old result out.new }
+{
+    let mut records = [0u8; N];
+    place_in(placer, list, &mut records, out)
+}
+
+// Places a list: the records in the first bytes of `out`, or a refusal that writes nothing.
+pub fn place_list<P: Placer>(placer: &P, list: &[u8], out: &mut [u8]) -> Result<Placed, Unplaced>
+    ensures { PlacingIs argument_limit (P.kind_count placer.now) (P.way placer.now) list.now out.old result out.new }
+{
+    if list.len() <= SHORT_LIST {
+        return place_with::<P, SHORT_RECORDS>(placer, list, out);
     }
-}
-
-// The fault of a place by the rules: 1 where there is none.
-pub fn place_fault(place: Placement) -> u8
-    ensures { result ≡ place_fault place }
-{
-    let parts = parts_of(place);
-    fields::unless(0 < parts.form, 1)
+    place_with::<P, LONG_RECORDS>(placer, list, out)
 }
 
 // Writes the six bytes of a placement's record from byte `at` on.
+#[tactic(auto, using(crate::proofs::Records::record_stored))]
 pub fn write_record(place: Placement, out: &mut [u8], at: usize)
     requires { at + record_length ≤ length out.old }
     ensures { out.new ≡ written out.old at (record_of place) }
 {
-    let parts = parts_of(place);
-    let number = parts.number;
+    let parts = PlacementParts::from(place);
+    let [first, second, third, fourth] = parts.number.to_be_bytes();
     out[at] = parts.form;
-    out[at + 1] = (number / 0x100_0000 % 0x100) as u8;
-    out[at + 2] = (number / 0x1_0000 % 0x100) as u8;
-    out[at + 3] = (number / 0x100 % 0x100) as u8;
-    out[at + 4] = (number % 0x100) as u8;
+    out[at + 1] = first;
+    out[at + 2] = second;
+    out[at + 3] = third;
+    out[at + 4] = fourth;
     out[at + 5] = parts.count;
 }
 
@@ -227,8 +210,7 @@ pub fn place_taken(place: Placement, taken: u32) -> u32
 {
     match place {
         Placement::Registers(first, count) => mark_run(taken, first, count),
-        Placement::Stack(_, _) => taken,
-        Placement::Nowhere => taken,
+        Placement::Stack(_, _) | Placement::Nowhere => taken,
     }
 }
 
@@ -238,8 +220,7 @@ pub fn place_p(place: Placement, p: Offset) -> Offset
     ensures { result ≡ place_p place p }
 {
     match place {
-        Placement::Registers(_, _) => p,
         Placement::Stack(offset, count) => Offset(offset.0 + count as u32),
-        Placement::Nowhere => p,
+        Placement::Registers(_, _) | Placement::Nowhere => p,
     }
 }

@@ -1,6 +1,6 @@
 -- Going through a table's kinds and its transitions: what is left answers the whole, and each that is right lies within the bytes.
 use Prim.Native.Nat.{ℕ, ◌+◌, ◌-◌, ◌≤◌, ◌<◌}
-use mathlib.Core.Path.{◌≡◌, refl, sym, ◌∙◌}
+use mathlib.Core.Path.{◌≡◌, refl, sym}
 use mathlib.Core.List.{List}
 use native.Mathlib.Omega.{arith}
 use lib.Dec.{lit<}
@@ -10,7 +10,10 @@ use Rattle.convention.specs.declared.Head.{Head}
 use Rattle.convention.specs.Fields.{shape_no}
 use Rattle.convention.specs.Layout.{shape_length, transition_length}
 use Rattle.convention.specs.Tables.{table_kinds_no, transition_of, is_transition, transition_no, transitions_no}
+use Rattle.convention.specs.declared.Refusal.{Refusal}
+use Rattle.convention.specs.Results.{refusal_number}
 use Rattle.convention.proofs.Numbers.{part_zero}
+use Rattle.convention.proofs.Results.{refusal_some}
 use Rattle.convention.proofs.InTurn.{Things, InTurn, turn_right, turn_wrong, turn_end}
 use Rattle.convention.proofs.Slices.{rest_of}
 use Rattle.convention.proofs.Fields.{shape_there}
@@ -20,26 +23,32 @@ pub record RunOf (t : List ℕ) (X : Things) : Type 0 where
   pub turns : InTurn X
   pub there : (at : ℕ) → at ≤ length t → X.one at ≡ 0 → at + X.long at ≤ length t
 
--- Half way through: the next one is at byte `at`, and those that are left give the number of all.
-pub record RunRest (t : List ℕ) (X : Things) (number at left : ℕ) : Type 0 where
+-- Half way through `count` of them, before the next one at byte `at`: those that are left give the number of all.
+pub record RunRest (t : List ℕ) (X : Things) (number at done count : ℕ) : Type 0 where
   pub within : at ≤ length t
-  pub numbers : X.all at left ≡ number
+  pub numbers : X.all at (count - done) ≡ number
 
 -- One that is right leaves the number of the others; one that is not gives its own; and nothing is wrong where none is left.
-module _ (t : List ℕ) (X : Things) (whole at : ℕ) (run : RunOf t X) where
-  pub run_turn : (left number long : ℕ) → RunRest t X whole at left → 0 < left → number ≡ X.one at → number ≡ 0 → long ≡ X.long at
-      → RunRest t X whole (at + long) (left - 1)
-  run_turn left number long inv h en ez el =
+module _ (t : List ℕ) (X : Things) (whole at done count : ℕ) (run : RunOf t X) where
+  pub run_turn : (long : ℕ) → RunRest t X whole at done count → done < count → 0 ≡ X.one at → long ≡ X.long at
+      → RunRest t X whole (at + long) (done + 1) count
+  run_turn long inv h e el =
+      let some : 0 < count - done = omega arith in
+      let less : count - (done + 1) ≡ count - done - 1 = omega arith in
       rw el (record {
-        within = run.there at inv.within (sym en ∙ ez);
-        numbers = turn_right X run.turns whole at left number inv.numbers h en ez;
+        within = run.there at inv.within (sym e);
+        numbers = rw less (turn_right X run.turns whole at (count - done) 0 inv.numbers some e refl);
       })
 
-  pub run_hit : (left number : ℕ) → RunRest t X whole at left → 0 < left → number ≡ X.one at → (number ≡ 0 → ⊥) → number ≡ whole
-  run_hit left number inv h en nz = turn_wrong X run.turns whole at left number inv.numbers h en nz
+  pub run_hit : (refusal : Refusal) → RunRest t X whole at done count → done < count → refusal_number refusal ≡ X.one at
+      → refusal_number refusal ≡ whole
+  run_hit refusal inv h e =
+      let some : 0 < count - done = omega arith in
+      let wrong : refusal_number refusal ≡ 0 → ⊥ = λ z. absurd (omega (arith, refusal_some refusal)) in
+      turn_wrong X run.turns whole at (count - done) (refusal_number refusal) inv.numbers some e wrong
 
-  pub run_done : (left : ℕ) → RunRest t X whole at left → left ≤ 0 → 0 ≡ whole
-  run_done left inv h = turn_end X run.turns whole at left inv.numbers h
+  pub run_done : RunRest t X whole at done count → count ≤ done → 0 ≡ whole
+  run_done inv h = turn_end X run.turns whole at (count - done) inv.numbers (omega arith)
 
 -- The kinds, each parsed from the part of the table that starts at its first byte.
 abbrev pub kinds_run : ℕ → Head → List ℕ → Things

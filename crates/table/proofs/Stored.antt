@@ -4,16 +4,15 @@ use mathlib.Core.Path.{◌≡◌, sym, ◌∙◌}
 use mathlib.Core.List.{List, ◌++◌}
 use native.Mathlib.Nat.{le_refl}
 use native.Mathlib.Omega.{arith}
-use lib.ListN.{length, get_or, drop, set, replicate}
+use lib.ListN.{get_or, drop, set, replicate}
 use lib.Seq.{take_all, drop-drop}
 use Rattle.convention.specs.declared.Head.{Head}
 use Rattle.convention.specs.declared.Shape.{Shape}
-use Rattle.convention.specs.Layout.{kinds_at, shape_length, table_kind_at}
+use Rattle.convention.specs.Layout.{kinds_at, table_kind_at}
 use Rattle.convention.specs.Fields.{shape_of}
 use Rattle.convention.specs.Sheets.{blank_shape}
 use Rattle.convention.specs.Tables.{table_kinds_of}
 use Rattle.convention.proofs.Filled.{filled, fill_turn, fill_done}
-use Rattle.convention.proofs.Positions.{kind_inside}
 use Rattle.convention.proofs.Tables.{table_kinds_count, table_kind_at_lem}
 use Rattle.table.specs.Within.{KindsThere}
 
@@ -35,7 +34,3 @@ module _ (v : ℕ) (h : Head) (t : List ℕ) where
       → kinds ≡ all ++ replicate (8 - h.kinds) blank_shape
   kinds_done kinds i inv le ge =
       rw (take_all h.kinds all (rw table_kinds_count (le_refl h.kinds))) at (fill_done all 8 blank_shape kinds i h.kinds inv le ge)
-
--- A kind's bytes lie within the table's.
-pub kind_within : (v : ℕ) (h : Head) (t : List ℕ) (i at : ℕ) → KindsThere v h t → i < h.kinds → at ≡ table_kind_at v i → at + shape_length v ≤ length t
-kind_within v h t i at asked l e = rw e (omega (arith, kind_inside v h i l, asked.within))

@@ -1,7 +1,8 @@
 -- What the table's functions ask of their callers, and promise one another.
-use Rattle.std.specs.Prelude.{ℕ, ◌+◌, ◌*◌, ◌≤◌, ◌<◌, List, length}
+use Rattle.std.specs.Prelude.{ℕ, ◌+◌, ◌*◌, ◌≤◌, ◌<◌, ◌≡◌, List, length}
 use Rattle.convention.specs.declared.Head.{Head}
 use Rattle.convention.specs.declared.Table.{Table}
+use Rattle.convention.specs.declared.Transition.{Transition}
 use Rattle.convention.specs.Layout.{states_at, transition_length, transition_at}
 
 -- A table's bytes t hold as many kinds as its head says.
@@ -23,3 +24,9 @@ pub record TransitionThere (v : ℕ) (h : Head) (t : List ℕ) (s k : ℕ) : Typ
 pub record InTable (table : Table) (s k : ℕ) : Type 0 where
   pub state : s < table.states
   pub kind : k < table.head.kinds
+
+-- A transition of a table that was read: registers that there are, a remainder by the modulus, and a next state that the table has.
+pub record TransitionRead (h : Head) (states : ℕ) (x : Transition) : Type 0 where
+  pub run : x.form ≡ 1 → x.a + x.b ≤ h.registers
+  pub residue : x.form ≡ 2 → x.a < h.modulus
+  pub next : x.next < states

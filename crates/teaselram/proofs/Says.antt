@@ -1,23 +1,25 @@
 -- Why the boundary's fields hold what they say: counts fit, and an answer that is known says what its case says.
 use Prim.Native.Nat.{ℕ, zero, suc, ◌+◌, ◌*◌, ◌≤◌, ◌<◌, ◌^◌}
-use mathlib.Core.Path.{◌≡◌, refl, sym, ◌∙◌}
+use mathlib.Core.Path.{◌≡◌, refl, sym, ap, ◌∙◌}
 use mathlib.Core.Bool.{Bool, true, false}
 use mathlib.Core.List.{List}
 use native.Mathlib.Omega.{arith}
 use lib.Dec.{ltb, leb}
 use lib.ListN.{length}
-use borrow.Author.Tests.{leb-true, ltb-true, lt-ltb, le-ltb}
-use Rattle.convention.specs.declared.BuildingAnswer.{BuildingAnswer}
-use Rattle.convention.specs.declared.JudgingAnswer.{JudgingAnswer}
-use Rattle.convention.specs.declared.JudgingAnswer.TheVariants.{Clean, Fault}
-use Rattle.convention.specs.declared.PlacingAnswer.{PlacingAnswer}
-use Rattle.convention.specs.Numbers.{state_limit, argument_limit, or_else, unless, reading, reading_no, refusal, placing_says, building_says, judging_says}
-use Rattle.convention.specs.declared.Head.{Head}
+use borrow.Author.Tests.{leb-true, ltb-true}
+use Rattle.std.specs.Prelude.{Ok, Err}
+use Rattle.convention.specs.Answers.{BuildingAnswer}
+use Rattle.convention.specs.Answers.{JudgingAnswer}
+use Rattle.convention.specs.Answers.{Clean, Fault}
+use Rattle.convention.specs.Answers.{PlacingAnswer}
+use Rattle.convention.specs.Numbers.{state_limit, argument_limit, or_else, unless, refusal, placing_says, building_says, judging_says}
 use Rattle.convention.specs.Layout.{starts_at, row_at}
 use Rattle.convention.specs.Fields.{version_of, head_of}
 use Rattle.convention.specs.Tables.{table_no, table_of, states_of, table_kind, read_table, row_no, row}
-use Rattle.convention.specs.declared.TableAnswer.{TableAnswer}
-use Rattle.convention.specs.declared.SheetAnswer.{SheetAnswer}
+use Rattle.convention.specs.declared.Refusal.{Refusal}
+use Rattle.convention.specs.declared.Sheet.{Sheet}
+use Rattle.convention.specs.declared.Table.{Table}
+use Rattle.convention.specs.Results.{refusal_number, sheet_answer, table_answer}
 use Rattle.convention.specs.Lists.{Steps, record_length, unknown_at, fault_from, stop_from, state_from, placing, placed_or_refused, walk_answer}
 use Rattle.convention.specs.Sheets.{sheet_kind_at, sheet_no, sheet_of, read_sheet, sheet_kind}
 use Rattle.convention.specs.Rules.{by_rules, place_by_rules}
@@ -25,23 +27,17 @@ use Rattle.convention.specs.Walked.{by_table, place_by_table}
 use Rattle.convention.specs.Built.{built_states, built_table, build_no, built_or_refused, build, many_states_no}
 use Rattle.convention.specs.Judged.{Judges}
 use Rattle.convention.proofs.Lists.{stop_le}
-use Rattle.convention.proofs.Numbers.{or_zero, or_first, or_later, unless_zero}
+use Rattle.convention.proofs.Numbers.{or_zero, unless_zero}
+use Rattle.convention.proofs.Results.{refusal_some, refused}
 use Rattle.convention.proofs.Positions.{table_most, length_said}
-use Rattle.convention.proofs.Tables.{table_read, row_refused, row_tests, row_part, row_start_lem, row_length_lem, row_some}
-use Rattle.convention.proofs.Sheets.{sheet_read, first_start_fits}
+use Rattle.convention.proofs.Tables.{table_read, table_right, table_is, table_refused, row_refused, row_tests, row_part, row_start_lem, row_length_lem, row_some}
+use Rattle.convention.proofs.Sheets.{sheet_read, sheet_right, sheet_is, sheet_refused, first_start_fits}
 use Rattle.sheet.specs.Kinds.{KindThere}
 use Rattle.building.proofs.Bytes.{built_most_lem}
 use Rattle.judging.proofs.Unique.{judge_zero, unique}
 use Rattle.teaselram.specs.declared.Answer.{Answer}
 use Rattle.teaselram.specs.declared.KindAnswer.{KindAnswer}
 use Rattle.teaselram.specs.Says.{answer_of, asked_no, kind_refusal, kind_given, sheet_kind_fields, table_kind_fields, sheet_kind_says, table_kind_says, row_says, JudgeSays}
-
--- An answer that is known to be one of its cases says what that case says.
-pub known_says : (placing known : PlacingAnswer) (a : Answer) → placing ≡ known → a ≡ answer_of (placing_says known) → a ≡ answer_of (placing_says placing)
-known_says placing known a e is = rw e is
-
-pub known_fits : (placing known : PlacingAnswer) → (placing_says placing).count < 2 ^ 16 → placing ≡ known → (placing_says known).count < 2 ^ 16
-known_fits placing known fits e = rw e at fits
 
 -- A call places at most as many arguments as the limit, so its count is no larger.
 pub count_most : (limit number m : ℕ) (M : Steps) (ks : List ℕ) (room : ℕ) → (placing_says (placing limit number m M ks room)).count ≤ limit
@@ -113,105 +109,115 @@ module _ (t : List ℕ) (state : ℕ) (part : List ℕ) (ep : part ≡ row state
     pub part_short : length part < 65536
     part_short = omega (arith, row_ends)
 
-    pub start_fits : (v : ℕ) (h : Head) → v ≡ version_of t → h ≡ head_of t → row_at v h state < 65536
-    start_fits v h ev eh = rw (ev, eh) (omega (arith, row_ends))
+    pub start_fits : row_at (version_of t) (head_of t) state < 65536
+    start_fits = omega (arith, row_ends)
 
-    pub row_given_lem : (v : ℕ) (h : Head) (start : ℕ) → v ≡ version_of t → h ≡ head_of t → start ≡ row_at v h state
+    pub row_given_lem : (start : ℕ) → start ≡ row_at (version_of t) (head_of t) state
         → ◌≡◌ {A = Answer} (record { number = 0; fault = 0; count = length part; value = start }) (answer_of (row_says state_limit t state))
     unfolding row_says
-    row_given_lem v h start ev eh es = rw (given, row_start_lem state_limit t state given, es, ev, eh, ep)
+    row_given_lem start es = rw (given, row_start_lem state_limit t state given, es, ep)
 
--- Asking for a kind of a file: the reader's number decides, and then the kind's.
-module _ (n m k number : ℕ) (e : number ≡ n) where
-  pub kind_unread : (number ≡ 0 → ⊥) → number ≡ asked_no n m k
-  kind_unread nz = or_first n _ number e nz
+-- Asking for a kind of a file: where there is a number it is said alone.
+kind_refused : (n number : ℕ) (answer fields : KindAnswer) → number ≡ n → 0 < number → answer ≡ kind_refusal number → answer ≡ kind_given n fields
+kind_refused zero number answer fields e some ea = absurd (omega arith)
+kind_refused (suc n) number answer fields e some ea = rw (← e) ea
 
-  module _ (z : number ≡ 0) where
-    pub kind_found : k < m → 0 ≡ asked_no n m k
-    kind_found l = or_later n _ number 0 e z (rw (lt-ltb _ _ l))
+-- A file that was not read gives the reader's number, and one without the kind 9; one that was read and has it gives none.
+module _ (n m k : ℕ) where
+  kind_unread : (refusal : Refusal) → refusal_number refusal ≡ n → refusal_number refusal ≡ asked_no n m k
+  kind_unread refusal e = refused refusal n _ e
 
-    pub kind_missing : m ≤ k → 9 ≡ asked_no n m k
-    kind_missing l = or_later n _ number 9 e z (rw (le-ltb _ _ l))
+  module _ (z : n ≡ 0) (has : Bool) (eh : has ≡ ltb k m) where
+    kind_missing : has ≡ false → 9 ≡ asked_no n m k
+    kind_missing lacks = rw (z, ← eh, lacks)
 
--- The number that the reader's answer leads to is the file's own, whose head an answer that was read carries.
-number_asked : (n m m' k number : ℕ) → (n ≡ 0 → m ≡ m') → number ≡ asked_no (reading_no (reading n)) m k → number ≡ asked_no n m' k
-number_asked zero m m' k number same e = rw (← same refl) e
-number_asked (suc n) m m' k number same e = e
+    kind_there : has ≡ true → asked_no n m k ≡ 0
+    kind_there holds = rw (z, ← eh, holds)
 
--- Where there is a number it is said alone; where there is none the file was read and has the kind, whose fields are said.
-kind_refused : (n number : ℕ) (answer fields : KindAnswer) → number ≡ n → (number ≡ 0 → ⊥) → answer ≡ kind_refusal number → answer ≡ kind_given n fields
-kind_refused zero number answer fields e nz ea = absurd (nz e)
-kind_refused (suc n) number answer fields e nz ea = rw (← e) ea
+    kind_known : has ≡ true → k < m
+    kind_known holds = ltb-true k m (sym eh ∙ holds)
 
-kind_known : (n m k number : ℕ) → number ≡ asked_no n m k → number ≡ 0 → (n ≡ 0) × (k < m)
-kind_known n m k number e z =
-    let both = or_zero n _ (sym e ∙ z) in
-    (both.0, ltb-true k m (unless_zero (ltb k m) 9 (omega arith) both.1))
-
-module _ (s : List ℕ) (k number : ℕ) (a : SheetAnswer) (ea : a ≡ read_sheet s)
-    (en : number ≡ asked_no (reading_no a.reading) a.sheet.head.kinds k) where
-  sheet_number : number ≡ asked_no (sheet_no s) (head_of s).kinds k
-  unfolding read_sheet sheet_of
-  sheet_number = number_asked (sheet_no s) _ _ k number (λ z. rw z) (rw ea at en)
-
-  pub sheet_kind_refused : (answer : KindAnswer) → (number ≡ 0 → ⊥) → answer ≡ kind_refusal number → answer ≡ sheet_kind_says s k
+module _ (s : List ℕ) (k : ℕ) where
+  pub sheet_kind_unread : (refusal : Refusal) (answer : KindAnswer) → sheet_answer (Err refusal) ≡ read_sheet s → answer ≡ kind_refusal (refusal_number refusal)
+      → answer ≡ sheet_kind_says s k
   unfolding sheet_kind_says
-  sheet_kind_refused answer nz e = kind_refused (asked_no (sheet_no s) (head_of s).kinds k) number answer _ sheet_number nz e
+  sheet_kind_unread refusal answer e ea =
+      kind_refused (asked_no (sheet_no s) (head_of s).kinds k) (refusal_number refusal) answer _
+      (kind_unread (sheet_no s) (head_of s).kinds k refusal (sym (sheet_refused s _ e _ refl))) (refusal_some refusal) ea
 
-  module _ (z : number ≡ 0) where
-    sheet_known : (sheet_no s ≡ 0) × (k < (head_of s).kinds)
-    sheet_known = kind_known (sheet_no s) (head_of s).kinds k number sheet_number z
+  module _ (sheet : Sheet) (e : sheet_answer (Ok sheet) ≡ read_sheet s) (has : Bool) (eh : has ≡ ltb k sheet.head.kinds) where
+    sheet_right_lem : sheet_no s ≡ 0
+    sheet_right_lem = sheet_right s _ e refl
 
-    pub sheet_kind_there : (v : ℕ) → v ≡ version_of s → KindThere v s k
-    sheet_kind_there v ev = record { read = sheet_known.0; version = ev; known = sheet_known.1 }
+    is : sheet ≡ sheet_of s
+    is = sheet_is s _ e refl
 
-    pub sheet_kind_below : k < 8
+    sheet_has : has ≡ ltb k (head_of s).kinds
     unfolding sheet_of
-    sheet_kind_below = omega (arith, (sheet_read s sheet_known.0).head.kinds, sheet_known.1)
+    sheet_has = rw is at eh
 
-    module _ (v at starts : ℕ) (ev : v ≡ version_of s) (e : at ≡ sheet_kind_at v s k) (es : starts ≡ starts_at v) where
-      pub first_start_below : at + starts < 65536
-      first_start_below = rw (e, es, ev) (first_start_fits s sheet_known.0 k sheet_known.1)
+    sheet_version : sheet.version ≡ version_of s
+    unfolding sheet_of
+    sheet_version = ap (λ (sheet : Sheet). sheet.version) is
 
-      pub sheet_kind_given : (answer : KindAnswer) → answer ≡ sheet_kind_fields (sheet_kind a.sheet k) (at + starts) → answer ≡ sheet_kind_says s k
-      unfolding sheet_kind_says read_sheet
-      sheet_kind_given answer is = rw (sym sheet_number ∙ z, is, ea, e, es, ev, sheet_known.0)
+    pub sheet_kind_missing : (answer : KindAnswer) → has ≡ false → answer ≡ kind_refusal 9 → answer ≡ sheet_kind_says s k
+    unfolding sheet_kind_says
+    sheet_kind_missing answer lacks ea =
+        kind_refused (asked_no (sheet_no s) (head_of s).kinds k) 9 answer _ (kind_missing (sheet_no s) (head_of s).kinds k sheet_right_lem has sheet_has lacks) (omega arith) ea
 
-module _ (t : List ℕ) (k number : ℕ) (a : TableAnswer) (ea : a ≡ read_table state_limit t)
-    (en : number ≡ asked_no (reading_no a.reading) a.table.head.kinds k) where
-  table_number : number ≡ asked_no (table_no state_limit t) (head_of t).kinds k
-  unfolding read_table table_of
-  table_number = number_asked (table_no state_limit t) _ _ k number (λ z. rw z) (rw ea at en)
+    module _ (holds : has ≡ true) where
+      sheet_known : k < (head_of s).kinds
+      sheet_known = kind_known (sheet_no s) (head_of s).kinds k sheet_right_lem has sheet_has holds
 
-  pub table_kind_refused : (answer : KindAnswer) → (number ≡ 0 → ⊥) → answer ≡ kind_refusal number → answer ≡ table_kind_says state_limit t k
+      pub sheet_kind_there : KindThere sheet.version s k
+      sheet_kind_there = record { read = sheet_right_lem; version = sheet_version; known = sheet_known }
+
+      pub sheet_kind_below : k < 8
+      unfolding sheet_of
+      sheet_kind_below = omega (arith, (sheet_read s sheet_right_lem).head.kinds, sheet_known)
+
+      module _ (at starts : ℕ) (ea : at ≡ sheet_kind_at sheet.version s k) (es : starts ≡ starts_at sheet.version) where
+        pub first_start_below : at + starts < 65536
+        first_start_below = rw (ea, es, sheet_version) (first_start_fits s sheet_right_lem k sheet_known)
+
+        pub sheet_kind_given : (answer : KindAnswer) → answer ≡ sheet_kind_fields (sheet_kind sheet k) (at + starts) → answer ≡ sheet_kind_says s k
+        unfolding sheet_kind_says
+        sheet_kind_given answer ef = rw (kind_there (sheet_no s) (head_of s).kinds k sheet_right_lem has sheet_has holds, ef, ea, es, sheet_version, ← is)
+
+module _ (t : List ℕ) (k : ℕ) where
+  pub table_kind_unread : (refusal : Refusal) (answer : KindAnswer) → table_answer (Err refusal) ≡ read_table state_limit t → answer ≡ kind_refusal (refusal_number refusal)
+      → answer ≡ table_kind_says state_limit t k
   unfolding table_kind_says
-  table_kind_refused answer nz e = kind_refused (asked_no (table_no state_limit t) (head_of t).kinds k) number answer _ table_number nz e
+  table_kind_unread refusal answer e ea =
+      kind_refused (asked_no (table_no state_limit t) (head_of t).kinds k) (refusal_number refusal) answer _
+      (kind_unread (table_no state_limit t) (head_of t).kinds k refusal (sym (table_refused state_limit t _ e _ refl))) (refusal_some refusal) ea
 
-  module _ (z : number ≡ 0) where
-    table_known : (table_no state_limit t ≡ 0) × (k < (head_of t).kinds)
-    table_known = kind_known (table_no state_limit t) (head_of t).kinds k number table_number z
+  module _ (table : Table) (e : table_answer (Ok table) ≡ read_table state_limit t) (has : Bool) (eh : has ≡ ltb k table.head.kinds) where
+    table_right_lem : table_no state_limit t ≡ 0
+    table_right_lem = table_right state_limit t _ e refl
 
-    pub table_kind_below : k < 8
+    is_table : table ≡ table_of t
+    is_table = table_is state_limit t _ e refl
+
+    table_has : has ≡ ltb k (head_of t).kinds
     unfolding table_of
-    table_kind_below = omega (arith, (table_read state_limit t table_known.0).head.kinds, table_known.1)
+    table_has = rw is_table at eh
 
-    pub table_kind_given : (answer : KindAnswer) → answer ≡ table_kind_fields (table_kind a.table k) → answer ≡ table_kind_says state_limit t k
-    unfolding table_kind_says read_table
-    table_kind_given answer is = rw (sym table_number ∙ z, is, ea, table_known.0)
+    pub table_kind_missing : (answer : KindAnswer) → has ≡ false → answer ≡ kind_refusal 9 → answer ≡ table_kind_says state_limit t k
+    unfolding table_kind_says
+    table_kind_missing answer lacks ea =
+        kind_refused (asked_no (table_no state_limit t) (head_of t).kinds k) 9 answer _ (kind_missing (table_no state_limit t) (head_of t).kinds k table_right_lem has table_has lacks)
+        (omega arith) ea
 
--- An answer of building that is known says what its case says; the table's length fits.
-pub known_building : (building known : BuildingAnswer) (a : Answer) → building ≡ known → a ≡ answer_of (building_says known) → a ≡ answer_of (building_says building)
-known_building building known a e is = rw e is
+    module _ (holds : has ≡ true) where
+      pub table_kind_below : k < 8
+      unfolding table_of
+      table_kind_below =
+          omega (arith, (table_read state_limit t table_right_lem).head.kinds, kind_known (table_no state_limit t) (head_of t).kinds k table_right_lem has table_has holds)
 
-pub length_known : (building known : BuildingAnswer) → (building_says building).value < 2 ^ 32 → building ≡ known → (building_says known).value < 2 ^ 32
-length_known building known fits e = rw e at fits
-
--- A verdict that is known says what its case says; its list fits.
-pub known_verdict : (verdict known : JudgingAnswer) (a : Answer) → verdict ≡ known → a ≡ answer_of (judging_says known) → a ≡ answer_of (judging_says verdict)
-known_verdict verdict known a e is = rw e is
-
-pub list_known : (verdict known : JudgingAnswer) → (judging_says verdict).count < 2 ^ 16 → verdict ≡ known → (judging_says known).count < 2 ^ 16
-list_known verdict known fits e = rw e at fits
+      pub table_kind_given : (answer : KindAnswer) → answer ≡ table_kind_fields (table_kind table k) → answer ≡ table_kind_says state_limit t k
+      unfolding table_kind_says
+      table_kind_given answer ef = rw (kind_there (table_no state_limit t) (head_of t).kinds k table_right_lem has table_has holds, ef, ← is_table)
 
 -- The length of a table that is built fits.
 pub length_fits : (s : List ℕ) (room : ℕ) (building : BuildingAnswer) → building ≡ build state_limit s room → (building_says building).value < 2 ^ 32

@@ -1,11 +1,11 @@
 -- What the structs of the boundary say: for each answer of crates/convention, 01's number and values, field by field.
 use Rattle.std.specs.Prelude.{ℕ, zero, suc, ◌≡◌, List, ltb, length}
 use Rattle.convention.specs.declared.Head.{Head}
-use Rattle.convention.specs.declared.JudgingAnswer.{JudgingAnswer}
+use Rattle.convention.specs.Answers.{JudgingAnswer}
 use Rattle.convention.specs.declared.SheetKind.{SheetKind}
-use Rattle.convention.specs.declared.SheetAnswer.{SheetAnswer}
+use Rattle.convention.specs.Answers.{SheetAnswer}
 use Rattle.convention.specs.declared.Shape.{Shape}
-use Rattle.convention.specs.declared.TableAnswer.{TableAnswer}
+use Rattle.convention.specs.Answers.{TableAnswer}
 use Rattle.convention.specs.Numbers.{Said, or_else, unless, reading_no, judging_says}
 use Rattle.convention.specs.Judged.{Judges}
 use Rattle.convention.specs.Fields.{version_of, head_of}

@@ -3,17 +3,19 @@
 // answer; every other field is 0.
 #![tactic(auto)]
 
-ghost use Rattle.std.specs.Prelude.{◌≡◌, ◌<◌, ◌^◌, length};
-ghost use Rattle.convention.specs.Numbers.{state_limit, argument_limit, reading_no, placing_says, building_says, judging_says};
+ghost use Rattle.std.specs.Prelude.{◌≡◌, ◌<◌, ◌^◌, length, ltb};
+ghost use Rattle.convention.specs.Numbers.{state_limit, argument_limit, refusal, placing_says, building_says, judging_says};
+ghost use Rattle.convention.specs.Results.{refusal_number, number_of, placing_answer, building_answer, judging_answer};
 ghost use Rattle.convention.specs.Built.{build, build_memory};
-ghost use Rattle.convention.specs.Sheets.{read_sheet};
+ghost use Rattle.convention.specs.Sheets.{read_sheet, blank_head};
 ghost use Rattle.convention.specs.Tables.{read_table};
 ghost use Rattle.convention.specs.Rules.{place_by_rules, rules_memory};
 ghost use Rattle.convention.specs.Walked.{place_by_table, table_memory};
-ghost use Rattle.teaselram.specs.Says.{answer_of, head_says, sheet_says, table_says, asked_no, kind_refusal, kind_says, sheet_kind_says, table_kind_says, row_says, JudgeSays};
+ghost use Rattle.teaselram.specs.Says.{answer_of, head_says, sheet_says, table_says, kind_refusal, kind_says, sheet_kind_says, table_kind_says, row_says, JudgeSays};
 
-use convention::{BuildingAnswer, Head, JudgingAnswer, PlacingAnswer, Reading, Shape};
+use convention::{Built, FaultyList, Head, Placed, Refusal, Shape, Unplaced};
 use fields::layout;
+use fields::layout::Layout;
 
 #[repr(C)]
 #[derive(Clone, Copy)]
@@ -48,93 +50,149 @@ pub struct KindAnswer {
     pub first_start: u16,
 }
 
-fn reading_no(reading: Reading) -> u8
-    ensures { result ≡ reading_no reading }
-{
-    match reading {
-        Reading::Read => 0,
-        Reading::Refused(number) => number,
+// The numbers that come with a position: an unknown kind, which asking for a kind that the file does not have gives too, and a
+// faulty step.
+const UNKNOWN_KIND: u8 = 9;
+
+const FAULTY_STEP: u8 = 10;
+
+// Nothing but zeros: what an answer says beside its number where that is all.
+const NOTHING: Answer = Answer {
+    number: 0,
+    fault: 0,
+    count: 0,
+    value: 0,
+};
+
+const NO_HEAD: HeadAnswer = HeadAnswer {
+    number: 0,
+    registers: 0,
+    width: 0,
+    modulus: 0,
+    kinds: 0,
+    zero: 0,
+    states: 0,
+};
+
+const NO_KIND: KindAnswer = KindAnswer {
+    number: 0,
+    size: 0,
+    alignment: 0,
+    flags: 0,
+    starts: 0,
+    zero: 0,
+    first_start: 0,
+};
+
+// A refusal says its number, and nothing else.
+impl From<Refusal> for Answer {
+    ghost use Rattle.convention.specs.Numbers.{refusal as refused};
+    ghost use Rattle.convention.specs.Results.{refusal_number};
+    ghost use Rattle.teaselram.specs.Says.{answer_of};
+
+    ghost from_gives = { λ r answer. answer ≡ answer_of (refused (refusal_number r)) };
+
+    fn from(refusal: Refusal) -> Answer {
+        Answer {
+            number: refusal.number(),
+            ..NOTHING
+        }
     }
 }
 
-fn refusal(number: u8) -> Answer
-    ensures { result ≡ record { number = number; fault = 0; count = 0; value = 0 } }
-{
-    Answer {
-        number,
-        fault: 0,
-        count: 0,
-        value: 0,
+impl From<Refusal> for HeadAnswer {
+    ghost use Rattle.convention.specs.Results.{refusal_number};
+    ghost use Rattle.convention.specs.Sheets.{blank_head};
+    ghost use Rattle.teaselram.specs.Says.{head_says};
+
+    ghost from_gives = { λ r answer. answer ≡ head_says (refusal_number r) blank_head 0 };
+
+    fn from(refusal: Refusal) -> HeadAnswer {
+        HeadAnswer {
+            number: refusal.number(),
+            ..NO_HEAD
+        }
     }
 }
 
-// What an answer of placing says in 01's numbers. A call places so few arguments that the count fits.
-fn placing_says(placing: PlacingAnswer) -> Answer
-    requires { (placing_says placing).count < 2 ^ 16 }
-    ensures { result ≡ answer_of (placing_says placing) }
+impl From<Refusal> for KindAnswer {
+    ghost use Rattle.convention.specs.Results.{refusal_number};
+    ghost use Rattle.teaselram.specs.Says.{kind_refusal};
+
+    ghost from_gives = { λ r answer. answer ≡ kind_refusal (refusal_number r) };
+
+    fn from(refusal: Refusal) -> KindAnswer {
+        KindAnswer {
+            number: refusal.number(),
+            ..NO_KIND
+        }
+    }
+}
+
+// What an answer of placing says in 01's numbers. A call places so few arguments that the count fits: it asks for that, which no
+// `From` can, nor those of building and judging.
+fn placing_says(placing: Result<Placed, Unplaced>) -> Answer
+    requires { (placing_says (placing_answer placing)).count < 2 ^ 16 }
+    ensures { result ≡ answer_of (placing_says (placing_answer placing)) }
 {
     match placing {
-        PlacingAnswer::Placed(n, p) => Answer {
-            number: 0,
-            fault: 0,
-            count: n as u16,
-            value: p.0,
+        Ok(placed) => Answer {
+            count: placed.arguments as u16,
+            value: placed.p.0,
+            ..NOTHING
         },
-        PlacingAnswer::Unknown(at) => Answer {
-            number: 9,
-            fault: 0,
+        Err(Unplaced::Unknown(at)) => Answer {
+            number: UNKNOWN_KIND,
             count: at as u16,
-            value: 0,
+            ..NOTHING
         },
-        PlacingAnswer::Faulty(at, fault) => Answer {
-            number: 10,
-            fault,
+        Err(Unplaced::Faulty(at, fault)) => Answer {
+            number: FAULTY_STEP,
+            fault: fault.number(),
             count: at as u16,
-            value: 0,
+            ..NOTHING
         },
-        PlacingAnswer::Refused(number) => refusal(number),
+        Err(Unplaced::Refused(refusal)) => refusal.into(),
     }
 }
 
 // What an answer of building says: N and the table's length, which fits.
-fn building_says(building: BuildingAnswer) -> Answer
-    requires { (building_says building).value < 2 ^ 32 }
-    ensures { result ≡ answer_of (building_says building) }
+fn building_says(building: Result<Built, Refusal>) -> Answer
+    requires { (building_says (building_answer building)).value < 2 ^ 32 }
+    ensures { result ≡ answer_of (building_says (building_answer building)) }
 {
     match building {
-        BuildingAnswer::Built(n, length) => Answer {
-            number: 0,
-            fault: 0,
-            count: n,
-            value: length as u32,
+        Ok(built) => Answer {
+            count: built.states,
+            value: built.length as u32,
+            ..NOTHING
         },
-        BuildingAnswer::Refused(number) => refusal(number),
+        Err(refusal) => refusal.into(),
     }
 }
 
 // What a verdict says: fault number and list length, both 0 where clean. A list has at most 2N kinds, so its length fits.
-fn judging_says(verdict: JudgingAnswer) -> Answer
-    requires { (judging_says verdict).count < 2 ^ 16 }
-    ensures { result ≡ answer_of (judging_says verdict) }
+fn judging_says(verdict: Result<Option<FaultyList>, Refusal>) -> Answer
+    requires { (judging_says (judging_answer verdict)).count < 2 ^ 16 }
+    ensures { result ≡ answer_of (judging_says (judging_answer verdict)) }
 {
     match verdict {
-        JudgingAnswer::Clean => refusal(0),
-        JudgingAnswer::Fault(fault, n) => Answer {
-            number: 0,
-            fault,
-            count: n as u16,
-            value: 0,
+        Ok(None) => NOTHING,
+        Ok(Some(found)) => Answer {
+            fault: found.fault.number(),
+            count: found.kinds as u16,
+            ..NOTHING
         },
-        JudgingAnswer::Refused(number) => refusal(number),
+        Err(refusal) => refusal.into(),
     }
 }
 
-// What an answer of reading says: the head, and a table's number of states.
-fn head_says(reading: Reading, head: Head, states: u16) -> HeadAnswer
-    ensures { result ≡ head_says (reading_no reading) head states }
+// What reading a file says: the head, and a table's number of states. A function of both, as a `From` of a pair would be no plainer.
+fn head_says(head: Head, states: u16) -> HeadAnswer
+    ensures { result ≡ head_says 0 head states }
 {
     HeadAnswer {
-        number: reading_no(reading),
+        number: 0,
         registers: head.registers,
         width: head.width,
         modulus: head.modulus,
@@ -144,33 +202,24 @@ fn head_says(reading: Reading, head: Head, states: u16) -> HeadAnswer
     }
 }
 
-// The number of asking for a kind of a file: the reader's, and then 9 where the file has no such kind.
-fn asked_no(reading: Reading, head: Head, kind: u64) -> u8
-    ensures { result ≡ asked_no (reading_no reading) head.kinds kind }
+// Whether a file of this head has a kind.
+fn has_kind(head: Head, kind: u64) -> bool
+    ensures { result ≡ ltb kind head.kinds }
 {
-    let number = reading_no(reading);
-    if number != 0 {
-        return number;
-    }
-    if kind < head.kinds as u64 { 0 } else { 9 }
+    kind < head.kinds as u64
 }
 
-// What asking for a kind says where it is refused: the number, and nothing else.
-fn kind_refusal(number: u8) -> KindAnswer
-    ensures { result ≡ kind_refusal number }
+// What asking for a kind says where the file has no such kind.
+fn no_such_kind() -> KindAnswer
+    ensures { result ≡ kind_refusal UNKNOWN_KIND }
 {
     KindAnswer {
-        number,
-        size: 0,
-        alignment: 0,
-        flags: 0,
-        starts: 0,
-        zero: 0,
-        first_start: 0,
+        number: UNKNOWN_KIND,
+        ..NO_KIND
     }
 }
 
-// What it says of a kind that the file has.
+// What it says of one that the file has, of four values that no type holds.
 fn kind_says(shape: Shape, flags: u8, starts: u8, first_start: u16) -> KindAnswer
     ensures { result ≡ kind_says shape flags starts first_start }
 {
@@ -189,22 +238,20 @@ fn kind_says(shape: Shape, flags: u8, starts: u8, first_start: u16) -> KindAnswe
 pub fn teaselram_read_sheet(sheet: &[u8]) -> HeadAnswer
     ensures { result ≡ sheet_says (read_sheet sheet.now) }
 {
-    let read = sheet::read_sheet(sheet);
-    let reading = read.reading;
-    let given = read.sheet;
-    let head = given.head;
-    head_says(reading, head, 0)
+    match sheet::read_sheet(sheet) {
+        Ok(read) => head_says(read.head, 0),
+        Err(refusal) => refusal.into(),
+    }
 }
 
 // Reads a table: its head and the number of its states. `teaselram_table_kind` answers the kinds, one by one.
 pub fn teaselram_read_table(table: &[u8]) -> HeadAnswer
     ensures { result ≡ table_says (read_table state_limit table.now) }
 {
-    let read = table::read_table(table);
-    let reading = read.reading;
-    let given = read.table;
-    let head = given.head;
-    head_says(reading, head, given.states)
+    match table::read_table(table) {
+        Ok(read) => head_says(read.head, read.states),
+        Err(refusal) => refusal.into(),
+    }
 }
 
 // Asks for one kind of a sheet, by any number: its size, alignment, flags and number of starts, and where in the sheet its
@@ -213,37 +260,31 @@ pub fn teaselram_read_table(table: &[u8]) -> HeadAnswer
 pub fn teaselram_sheet_kind(sheet: &[u8], kind: u64) -> KindAnswer
     ensures { result ≡ sheet_kind_says sheet.now kind }
 {
-    let read = sheet::read_sheet(sheet);
-    let reading = read.reading;
-    let given = read.sheet;
-    let head = given.head;
-    let number = asked_no(reading, head, kind);
-    if number != 0 {
-        return kind_refusal(number);
+    let read = match sheet::read_sheet(sheet) {
+        Ok(read) => read,
+        Err(refusal) => return refusal.into(),
+    };
+    if !has_kind(read.head, kind) {
+        return no_such_kind();
     }
-    let kinds = given.kinds;
-    let asked = kinds[kind as usize];
-    let version = fields::version_of(sheet);
-    let at = sheet::kind_at(version, sheet, kind as usize);
-    let first = (at + layout::starts_at(version)) as u16;
+    let asked = read.kinds[kind as usize];
+    let at = sheet::kind_at(read.version, sheet, kind as usize);
+    let first = (at + layout::starts_at(read.version)) as u16;
     kind_says(asked.shape, asked.flags, asked.tries, first)
 }
 
-// Asks for one kind of a table, by any number: its size and alignment. Every other field is 0.
+// Asks for one kind of a table, by any number, as C asks for one of a sheet; what it says of it is another definition: its size and alignment. Every other field is 0.
 pub fn teaselram_table_kind(table: &[u8], kind: u64) -> KindAnswer
     ensures { result ≡ table_kind_says state_limit table.now kind }
 {
-    let read = table::read_table(table);
-    let reading = read.reading;
-    let given = read.table;
-    let head = given.head;
-    let number = asked_no(reading, head, kind);
-    if number != 0 {
-        return kind_refusal(number);
+    let read = match table::read_table(table) {
+        Ok(read) => read,
+        Err(refusal) => return refusal.into(),
+    };
+    if !has_kind(read.head, kind) {
+        return no_such_kind();
     }
-    let shapes = given.kinds;
-    let shape = shapes[kind as usize];
-    kind_says(shape, 0, 0, 0)
+    kind_says(read.kinds[kind as usize], 0, 0, 0)
 }
 
 // Places a list of kinds by the rules of a sheet.
@@ -251,8 +292,7 @@ pub fn teaselram_place_by_rules(sheet: &[u8], kinds: &[u8], out: &mut [u8]) -> A
     ensures value { result ≡ answer_of (placing_says (place_by_rules argument_limit sheet.now kinds.now (length out.old))) }
     ensures out_after { out.new ≡ rules_memory argument_limit sheet.now kinds.now out.old }
 {
-    let placing = placing::place_by_rules(sheet, kinds, out);
-    placing_says(placing)
+    placing_says(placing::place_by_rules(sheet, kinds, out))
 }
 
 // Places a list of kinds by a table.
@@ -260,8 +300,7 @@ pub fn teaselram_place_by_table(table: &[u8], kinds: &[u8], out: &mut [u8]) -> A
     ensures value { result ≡ answer_of (placing_says (place_by_table state_limit argument_limit table.now kinds.now (length out.old))) }
     ensures out_after { out.new ≡ table_memory state_limit argument_limit table.now kinds.now out.old }
 {
-    let placing = walking::place_by_table(table, kinds, out);
-    placing_says(placing)
+    placing_says(walking::place_by_table(table, kinds, out))
 }
 
 // Builds the table of a sheet.
@@ -269,16 +308,14 @@ pub fn teaselram_build(sheet: &[u8], out: &mut [u8]) -> Answer
     ensures value { result ≡ answer_of (building_says (build state_limit sheet.now (length out.old))) }
     ensures out_after { out.new ≡ build_memory state_limit sheet.now out.old }
 {
-    let building = building::build(sheet, out);
-    building_says(building)
+    building_says(building::build(sheet, out))
 }
 
 // Judges a table.
 pub fn teaselram_judge(table: &[u8], out: &mut [u8]) -> Answer
     ensures { JudgeSays state_limit table.now out.old result out.new }
 {
-    let verdict = judging::judge(table, out);
-    judging_says(verdict)
+    judging_says(judging::judge(table, out))
 }
 
 // Asks for the row of a state, any number: how long it is, and where it starts in the table. A row is never empty, so an
@@ -289,11 +326,12 @@ pub fn teaselram_row(table: &[u8], state: u64) -> Answer
     let row = table::row(table, state as usize);
     let length = row.len();
     if length == 0 {
-        return refusal(table::row_no(table, state as usize));
+        return match table::check_row(table, state as usize) {
+            Ok(()) => NOTHING,
+            Err(refusal) => refusal.into(),
+        };
     }
-    let version = fields::version_of(table);
-    let head = fields::head_of(table);
-    let start = layout::row_at(version, head, state as u16);
+    let start = Layout::of(table).row_at(state as u16);
     Answer {
         number: 0,
         fault: 0,

@@ -1,4 +1,5 @@
-// The static library: the calls of crates/teaselram for C and Rust, each with the clauses that it has there. A slice is a pointer and a
+// The static library: the calls of crates/teaselram for C and Rust, each with the clauses that it has there. (C names them, and a
+// crate is a library or a static library, so each stands here once more.) A slice is a pointer and a
 // length; nothing is written but `out`. Each answer is one of three structs of eight bytes, by value.
 #![tactic(auto)]
 

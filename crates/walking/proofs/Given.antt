@@ -15,7 +15,7 @@ use Rattle.convention.specs.declared.Offset.{Offset}
 use Rattle.convention.specs.declared.ByTable.{ByTable}
 use Rattle.convention.specs.declared.Placement.{Placement}
 use Rattle.convention.specs.declared.Placement.TheVariants.{Nowhere}
-use Rattle.convention.specs.declared.PlacingAnswer.TheVariants.{Placed}
+use Rattle.convention.specs.Answers.{Placed}
 use Rattle.convention.specs.Numbers.{state_limit, argument_limit}
 use Rattle.convention.specs.Tables.{table_no, table_kind, transition, table_of}
 use Rattle.convention.specs.Lists.{fault_from, state_from, places_from, KindsBelow}

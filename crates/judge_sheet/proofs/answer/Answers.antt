@@ -22,17 +22,17 @@ slice_bounds-table_line-end c = search (table_long, rules)
 pub table_line-requires : goal.table_line-requires
 table_line-requires c = search (table_line_asks, rules)
 
-pub write_refused-requires-in-Refused : goal.write_refused-requires-in-Refused
-write_refused-requires-in-Refused c = search (refusal_room, rules)
+pub write_refused-requires-in-Err : goal.write_refused-requires-in-Err
+write_refused-requires-in-Err c = search (refusal_room, rules)
 
-pub returns-in-Built : goal.returns-in-Built
+pub returns-in-Ok : goal.returns-in-Ok
 unfolding shape_length state_length
-returns-in-Built c =
+returns-in-Ok c =
     let few : length c.args.input.now ≤ input_limit = omega arith in
     search (prints_built, rules)
 
-pub returns-in-Refused : goal.returns-in-Refused
+pub returns-in-Err : goal.returns-in-Err
 unfolding shape_length state_length
-returns-in-Refused c =
+returns-in-Err c =
     let few : length c.args.input.now ≤ input_limit = omega arith in
     search (prints_refused, rules)

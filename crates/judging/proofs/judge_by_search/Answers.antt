@@ -1,7 +1,9 @@
--- `judge_by_search`: the memory has eight bytes for each node of the largest table.
-use Rattle.judging.proofs.Answers.{judge_searches}
-use borrow.Author.Rules.{rules}
+-- `judge_by_search`: the least list can be walked, and is faulty.
+use Rattle.judging.proofs.Answers.{judge_known, judge_faulty}
 use Rattle.judging.proofs.judge_by_search.Goals as goal
 
-pub judge_in-requires : goal.judge_in-requires
-judge_in-requires c = record { judge_in_asks = search (judge_searches, rules); once_but = search rules }
+pub list_fault-requires : goal.list_fault-requires
+list_fault-requires c = rw c.as_slice-kinds.ensures (judge_known _ _ _ c.requires.judge_asks _ c.least_list-best.ensures _ c.in-Some.is)
+
+pub unwrap_err-fault-requires : goal.unwrap_err-fault-requires
+unwrap_err-fault-requires c = judge_faulty _ _ _ c.requires.judge_asks _ c.least_list-best.ensures _ c.in-Some.is _ (rw c.as_slice-kinds.ensures at c.list_fault.ensures)

@@ -1,3 +1,4 @@
+-- `search`: before the first start that is tried, at one whose run is free, after one whose run is not, and after the last.
 use Rattle.placing.proofs.Starts.{search_begin, search_hit, search_on, search_end}
 use borrow.Author.Rules.{rules}
 use Rattle.placing.proofs.search.Goals as goal

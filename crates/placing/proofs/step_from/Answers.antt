@@ -7,4 +7,6 @@ pub after-reached-requires : goal.after-reached-requires
 after-reached-requires c = search (after_asks, rules)
 
 pub returns : goal.returns
-returns c = search (step_is, rules)
+returns c =
+    step_is _ _ _ c.requires.step _ _ _ _ c.registers_needed-count.ensures c.search-searched.ensures _ c.place-found.ensures c.requires.cursor _
+    c.after-reached.ensures _ (rw (← c.unwrap_or.ensures) c.cursor.ensures)

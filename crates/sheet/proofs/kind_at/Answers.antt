@@ -3,8 +3,8 @@ use native.Mathlib.Omega.{arith}
 use borrow.Author.Rules.{rules}
 use Rattle.sheet.proofs.kind_at.Goals as goal
 
-pub loop-passed-init : goal.loop-passed-init
-loop-passed-init c = (search (kind_begins, rules), search rules)
+pub loop-init : goal.loop-init
+loop-init c = search (kind_begins, rules)
 
 pub slice_bounds-kind_length-count : goal.slice_bounds-kind_length-count
 slice_bounds-kind_length-count c = search (at_within, rules)
@@ -13,7 +13,7 @@ pub slice_bounds-kind_length-start : goal.slice_bounds-kind_length-start
 slice_bounds-kind_length-start c = search (at_within, rules)
 
 pub overflow_add-at : goal.overflow_add-at
-overflow_add-at c = omega (arith, at_within _ _ _ _ _ c.loop-passed.invariant.0 c.requires c.loop-passed.invariant.1)
+overflow_add-at c = omega (arith, at_within _ _ _ _ _ c.loop.invariant c.requires (omega arith))
 
-pub loop-passed-preserved : goal.loop-passed-preserved
-loop-passed-preserved c = (search (at_turn, rules), search rules)
+pub loop-preserved : goal.loop-preserved
+loop-preserved c = search (at_turn, rules)

@@ -1,7 +1,9 @@
--- `stepping::test_list` meets its contract: a list that passes each test has a law; the other ways the prover finds.
-use Rattle.stepping.proofs.Calls.{tested_known}
-use borrow.Author.Rules.{rules}
+-- `test_list`: a list that passes its first tests has an unknown kind, or none.
+use Rattle.stepping.proofs.Calls.{tested_unknown, tested_known}
 use Rattle.stepping.proofs.test_list.Goals as goal
 
-pub returns : goal.returns
-returns c = search (tested_known, rules)
+pub returns-in-Some : goal.returns-in-Some
+returns-in-Some c = tested_unknown _ _ _ _ c.in_ok-check_size.ensures _ c.in-Some.ensures
+
+pub returns-in-None : goal.returns-in-None
+returns-in-None c = tested_known _ _ _ _ c.in_ok-check_size.ensures c.in-None.ensures

@@ -1,17 +1,27 @@
 -- `row`: a row that is given lies within the table's bytes.
+use Rattle.std.proofs.Common.{arith}
+use Rattle.convention.specs.Numbers.{state_limit}
 use Rattle.table.proofs.Rows.{refused_bytes, refused_place, state_counted, row_within, given_bytes, given_place}
-use native.Mathlib.Omega.{arith}
-use borrow.Author.Rules.{rules}
 use Rattle.table.proofs.row.Goals as goal
 
-pub returns-then-row_no-ne0 : goal.returns-then-row_no-ne0
-returns-then-row_no-ne0 c = record { bytes = search (refused_bytes, rules); place = search (refused_place, rules) }
+pub returns-in-Err : goal.returns-in-Err
+returns-in-Err c = record {
+  bytes = refused_bytes state_limit _ _ _ c.in-Err.ensures;
+  place = refused_place state_limit _ _ _ c.in-Err.ensures _;
+}
 
 pub overflow_cast-state : goal.overflow_cast-state
-overflow_cast-state c = omega (arith, state_counted _ _ _ _ c.row_no.ensures c.if-row_no-ne0.false)
+overflow_cast-state c = omega (arith, state_counted state_limit _ _ c.in-Ok.ensures)
 
-pub slice_bounds-result-end-2 : goal.slice_bounds-result-end-2
-slice_bounds-result-end-2 c = search (row_within, rules)
+pub slice_bounds-result-end-in-Ok : goal.slice_bounds-result-end-in-Ok
+slice_bounds-result-end-in-Ok c =
+    row_within state_limit _ _ c.in-Ok.ensures _ _ (rw c.of-layout.ensures at c.row_at-start.ensures.value) (rw c.of-layout.ensures at c.row_length.ensures.value)
 
-pub returns : goal.returns
-returns c = record { bytes = search (given_bytes, rules); place = search (given_place, rules) }
+pub returns-in-Ok : goal.returns-in-Ok
+returns-in-Ok c =
+    let start = rw c.of-layout.ensures at c.row_at-start.ensures.value in
+    let long = rw c.of-layout.ensures at c.row_length.ensures.value in
+    record {
+      bytes = given_bytes state_limit _ _ c.in-Ok.ensures _ _ start long;
+      place = given_place state_limit _ _ c.in-Ok.ensures _ _ start long _;
+    }

@@ -1,14 +1,15 @@
--- `teaselram_table_kind`: the number decides; a kind that is there is one of eight.
-use Rattle.teaselram.proofs.Says.{table_kind_refused, table_kind_below, table_kind_given}
-use native.Mathlib.Omega.{arith}
-use borrow.Author.Rules.{rules}
+-- `teaselram_table_kind`: the table was read and has the kind, or a number is said.
+use Rattle.teaselram.proofs.Says.{table_kind_unread, table_kind_missing, table_kind_below, table_kind_given}
 use Rattle.teaselram.proofs.teaselram_table_kind.Goals as goal
 
-pub returns-then-number-ne0 : goal.returns-then-number-ne0
-returns-then-number-ne0 c = search (table_kind_refused, rules)
+pub returns-in-Err : goal.returns-in-Err
+returns-in-Err c = table_kind_unread _ _ _ _ c.in-Err.ensures c.into.ensures
 
-pub bounds-shapes-kind : goal.bounds-shapes-kind
-bounds-shapes-kind c = omega (arith, table_kind_below _ _ _ _ c.read_table-read.ensures c.asked_no-number.ensures c.if-number-ne0.false)
+pub returns-then-not-has_kind : goal.returns-then-not-has_kind
+returns-then-not-has_kind c = table_kind_missing _ _ _ c.in-Ok.ensures _ c.has_kind.ensures _ c.if-not-has_kind.true c.no_such_kind.ensures
+
+pub bounds-read-kind : goal.bounds-read-kind
+bounds-read-kind c = table_kind_below _ _ _ c.in-Ok.ensures _ c.has_kind.ensures c.if-not-has_kind.false
 
 pub returns : goal.returns
-returns c = search (table_kind_given, rules)
+returns c = table_kind_given _ _ _ c.in-Ok.ensures _ c.has_kind.ensures c.if-not-has_kind.false _ c.kind_says.ensures

@@ -1,21 +1,27 @@
-use mathlib.Core.Path.{refl}
-use Rattle.table.proofs.Rows.{transition_there}
-use Rattle.judging.proofs.Searching.{through_begin, through_in, through_hit, through_meets, through_turn}
-use borrow.Author.Rules.{rules}
+use Rattle.std.proofs.Common.{rules, refl}
+use Rattle.judging.proofs.Searching.{through_state, through_begin, through_in, through_hit, through_meets, through_turn}
 use Rattle.judging.proofs.search.go_through.Goals as goal
+
+pub overflow_cast-state : goal.overflow_cast-state
+overflow_cast-state c = let inside = through_state _ _ _ c.args.table.now.read _ _ _ c.requires in search rules
 
 pub loop-k-init : goal.loop-k-init
 loop-k-init c = search (through_begin, rules)
 
-pub transition_of-x-requires : goal.transition_of-x-requires
-transition_of-x-requires c = search (transition_there, through_in, rules)
+pub of-step-requires : goal.of-step-requires
+of-step-requires c = through_in _ _ _ c.args.table.now.read _ _ _ c.requires _ _ c.loop-k.invariant c.loop-k-test.true
 
-pub returns-then-step-ne0 : goal.returns-then-step-ne0
-returns-then-step-ne0 c = search (through_hit, rules)
+pub meet-requires : goal.meet-requires
+meet-requires c = (
+  search rules,
+  through_meets _ _ _ c.args.table.now.read _ _ _ c.requires _ _ c.loop-k.invariant c.loop-k-test.true _ c.of-step.ensures _ c.in-Ok.ensures _ refl,
+)
 
-pub meet-number-requires : goal.meet-number-requires
-meet-number-requires c = search (through_meets, rules)
+pub returns-in-Err : goal.returns-in-Err
+returns-in-Err c =
+    through_hit _ _ _ c.args.table.now.read _ _ _ c.requires _ _ c.loop-k.invariant c.loop-k-test.true _ c.of-step.ensures _ c.in-Err.ensures _ refl
 
 pub loop-k-preserved : goal.loop-k-preserved
-loop-k-preserved c = through_turn _ _ _ _ _ _ _ c.requires _ _ _ c.loop-k.invariant c.loop-k-test.true _ c.transition_of-x.ensures _ refl _ _ c.step-step.ensures
-    c.if-step-ne0.false _ _ _ c.meet-number.ensures c.count_after-met.ensures (search rules)
+loop-k-preserved c =
+    through_turn _ _ _ c.args.table.now.read _ _ _ c.requires _ _ c.loop-k.invariant c.loop-k-test.true _ c.of-step.ensures _ c.in-Ok.ensures _ refl
+    _ _ c.meet.ensures
