@@ -78,9 +78,8 @@ fn meet_led(led: Led, states: &mut States) -> Result<Option<u16>, Refusal>
     }
 }
 
-// (The states and the rows are lent side by side here and in `pass_kinds`; `decide` makes the one and is lent the other.)
 // Kind k gone through at a state: what it leads to is met, where it leads on, and its transition stands among the rows, from
-// byte `at` on.
+// byte `at` on. (The states and the rows are lent side by side, since `decide` makes the one and is lent the other.)
 fn pass(
     rules: &Rules,
     k: u8,

@@ -1,5 +1,6 @@
-// Writing a sheet's table in place, by functions and no `From`, since each part goes to its own byte of the caller's memory: the transitions of its rows, one after the other from byte 0 on, and what stands before the rows,
-// each part from the byte on where the layout puts it.
+// Writing a sheet's table: the transitions of its rows, one after the other from byte 0 on, and what stands before the rows, each part
+// from the byte on where the layout puts it. That is done by functions and no `From`, since each part goes to its own byte of the
+// caller's memory.
 ghost use Rattle.std.specs.Prelude.{◌≡◌, ◌+◌, ◌-◌, ◌≤◌, length, take};
 ghost use Rattle.convention.specs.Numbers.{state_limit};
 ghost use Rattle.convention.specs.Bytes.{written, blocks};
@@ -21,8 +22,8 @@ use fields::layout::{
 // The version in whose form rows are made: `rows_version`.
 pub(crate) const ROWS_VERSION: u8 = 1;
 
-// Writes the number of states, or of a state, from byte `at` on. (The output and the byte go side by side to these four functions
-// alone, each of which writes one thing.)
+// Writes the number of states, or of a state, from byte `at` on. (The output and the byte go side by side to four functions alone,
+// each of which writes one thing.)
 #[tactic(auto, using(convention::proofs::Positions::state_some, crate::proofs::Writing::stored_state))]
 fn write_state(version: u8, n: u16, out: &mut [u8], at: usize)
     requires { (n ≤ state_limit) × (at + state_length version ≤ length out.old) }

@@ -34,8 +34,8 @@ pub enum Placement {
     Nowhere,
 }
 
-// What a placement is made of, as its record says it and `parts_of` defines it, with the form as a number and no enum: its form, 1 for registers, 2 for the stack and 0 for nowhere; its first register or its offset;
-// its count.
+// What a placement is made of: its form, 1 for registers, 2 for the stack and 0 for nowhere; its first register or its offset; its
+// count. The form is a number and no enum, as the record says it and `parts_of` defines it.
 #[derive(Clone, Copy)]
 pub struct PlacementParts {
     pub form: u8,
@@ -167,16 +167,27 @@ pub struct ByTable {
 // Why a call refuses what it was given: one for each of document 01's numbers but 9 and 10, which `Unplaced` has.
 #[derive(Clone, Copy, Debug, PartialEq, Eq)]
 pub enum Refusal {
+    // Fewer than two bytes, or a length field that is not the count of the bytes after it.
     Length = 1,
+    // A version that is not 1.
     Version = 2,
+    // A byte is missing.
     Missing = 3,
+    // n, w, A, m or N outside its values.
     Head = 4,
+    // A kind's field outside its values.
     Kind = 5,
+    // Bytes left over.
     LeftOver = 6,
+    // A transition outside its values.
     Transition = 7,
+    // More arguments than a call places.
     Arguments = 8,
+    // Lists of the sheet's kinds reach more allocation states than a table may have.
     States = 11,
+    // The lent output is shorter than needed.
     Room = 12,
+    // A row asked of a state of N or more.
     Row = 13,
 }
 
@@ -192,9 +203,13 @@ impl Refusal {
 // What is wrong with a step: document 01's faults.
 #[derive(Clone, Copy, Debug, PartialEq, Eq)]
 pub enum Fault {
+    // There is no place.
     NoPlace = 1,
+    // A register of the run was given to an earlier argument.
     GivenTwice = 2,
+    // Not the registers, or not the stack bytes, that the kind's size needs.
     WrongCount = 3,
+    // A residue that is no multiple of the alignment.
     Misaligned = 4,
 }
 
@@ -214,7 +229,8 @@ pub struct Placed {
     pub p: Offset,
 }
 
-// Why a list was not placed: a refusal; or an unknown kind, with its position, number 9; or a faulty step, with its position, number 10.
+// Why a list was not placed: a refusal; or an unknown kind, number 9, with its position; or a faulty step, number 10, with its
+// position and fault.
 #[derive(Clone, Copy)]
 pub enum Unplaced {
     Refused(Refusal),

@@ -22,8 +22,8 @@ pub struct Entry {
 // The first entry: node 0, met from nowhere.
 const START: Entry = Entry { node: 0, pair: 0 };
 
-// The entries of an exploration, in arrays that fit them all and no `Vec` or map, as the project uses no heap. A node's mark is the number of its entry plus one, and 0 where it was not met: an
-// `Option<u16>` would take twice the bytes.
+// The entries of an exploration, in arrays that fit them all and no `Vec` or map, as the project uses no heap. A node's mark is the
+// number of its entry plus one, and 0 where it was not met: an `Option<u16>` would take twice the bytes.
 #[derive(Drop)]
 pub struct Exploration<const NODES: usize> {
     marks: [u16; NODES],
@@ -92,8 +92,8 @@ impl<const NODES: usize> Exploration<NODES> {
         number
     }
 
-    // Writes the path to entry i into the last bytes of `to`, going from parent to parent, which no `for` counts: from its last kind on, by the pairs, to the start. Answers where
-    // it begins.
+    // Writes the path to entry i into the last bytes of `to`, from its last kind on, by the pairs, to the start. Answers where it
+    // begins. It goes from parent to parent, which no `for` counts.
     pub fn write_path(&self, i: usize, to: &mut [u8]) -> usize
         requires inside { i < length self.now }
         requires room { i ≤ length to.old }

@@ -57,9 +57,9 @@ pub fn blank_shape() -> Shape
     }
 }
 
-// (That a width is one of 01's is asked here and no type: a head holds it as the byte that was read, right or wrong.)
 // 'A kind needs k registers, size / w rounded up.' A width is a power of two, so the division is a shift: by 0, 1, 2 and 3 for
-// the widths 1, 2, 4 and 8, which is w / 2 - w / 8.
+// the widths 1, 2, 4 and 8, which is w / 2 - w / 8. That a width is one of 01's is asked here and is no type: a head holds it as the
+// byte that was read, right or wrong.
 pub fn registers_needed(width: u8, shape: Shape) -> u8
     requires { is_width width ≡ true }
     ensures { result ≡ registers_needed width shape }

@@ -39,8 +39,8 @@ pub(crate) struct Found {
     pub(crate) kind: u8,
 }
 
-// (The table, what is watched and the exploration go side by side to two functions and end with `improve`.)
-// Searches the nodes of a watched walk, from the start on, for its first faulty kind, and stops there.
+// Searches the nodes of a watched walk, from the start on, for its first faulty kind, and stops there. (The table, what is watched and
+// the exploration go side by side to two functions alone.)
 pub(crate) fn search(
     table: &ReadTable<'_>,
     watching: Watching,

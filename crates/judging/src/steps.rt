@@ -48,7 +48,8 @@ fn check_watched(step: Step, again: bool) -> Result<(), Fault>
     step.check(0)
 }
 
-// The node of a state: one number, by which an exploration keeps it, and no struct with a `From`, as an entry has two bytes for it. `search` takes it apart again.
+// The node of a state: one number, by which an exploration keeps it, and no struct with a `From`, as an entry has two bytes for it.
+// `search` takes it apart again.
 fn node_of(state: u16, given: bool) -> usize
     ensures { result ≡ node_of state given }
 {

@@ -8,8 +8,8 @@ ghost use Rattle.line.specs.Appended.{FieldRoom, Appended, Room, Grown};
 
 use itoa::Buffer;
 
-// A text on its way: the first `len` bytes of `out`. Each method asks for room for its own text. `write!` and `Display` are not the form: they promise the text where they answer `Ok`, and
-// never promise `Ok`, while the functions that write a line cannot fail.
+// A text on its way: the first `len` bytes of `out`. Each method asks for room for its own text. `write!` and `Display` are not the
+// form: they promise the text where they answer `Ok`, and never promise `Ok`, while the functions that write a line cannot fail.
 #[derive(Drop)]
 struct Text<'o> {
     out: &'o mut [u8],

@@ -40,8 +40,8 @@ pub fn run(first: Reg, count: u8) -> u32
     ((1u32 << count as u32) - 1) << at
 }
 
-// (That a run ends within the sixteen is asked of the arguments and no type of run: a table's may be wrong, and is tested first.)
-// Whether the run of `count` registers from `first` on is wholly available, where the registers of `taken` are not.
+// Whether the run of `count` registers from `first` on is wholly available, where the registers of `taken` are not. That a run ends
+// within the sixteen is asked of its two numbers and is no type: a sheet and a table have them as bytes, which their readers test.
 pub fn free_run(taken: u32, first: Reg, count: u8) -> bool
     requires { first.0 + count ≤ 16 }
     ensures { result ≡ free_run (set_of 16 taken) first.0 count }
@@ -146,8 +146,8 @@ pub fn decide<P: Placer>(
     })
 }
 
-// (The placer, the list and the output are the call's own arguments, handed on as they came.)
-// Places a list: it is decided in `records`, and the records of a list that is placed are copied to `out`.
+// Places a list: it is decided in `records`, and the records of a list that is placed are copied to `out`. (The placer, the list and
+// the output are handed on as the call got them.)
 #[tactic(auto, using(crate::proofs::Calls::list_unwritten))]
 fn place_in<P: Placer>(
     placer: &P,

@@ -19,8 +19,8 @@ use convention::{Head, KIND_LIMIT, Refusal, STATE_LIMIT, Shape, Table, Transitio
 use fields::layout::{A_AT, B_AT, FORM_AT, KINDS_AT, Layout, NEXT_AT};
 use fields::{layout, shapes};
 
-// Checks the kinds (a loop beside the sheet reader's, which says why), 5 or 3 for the first that is wrong or missing, in a table that is at least as long as its head.
-// Each kind is parsed from the part of the table that starts at its first byte.
+// Checks the kinds, 5 or 3 for the first that is wrong or missing, in a table that is at least as long as its head. Each kind is
+// parsed from the part of the table that starts at its first byte. Why the sheet reader has a loop of its own is said there.
 fn check_kinds(layout: Layout, t: &[u8]) -> Result<(), Refusal>
     requires { kinds_at ≤ length t.now }
     ensures { number_of result ≡ table_kinds_no layout.version layout.head (drop kinds_at t.now) layout.head.kinds }
@@ -33,8 +33,8 @@ fn check_kinds(layout: Layout, t: &[u8]) -> Result<(), Refusal>
     Ok(())
 }
 
-// (A sheet's kinds are another definition; an array fits them all, as the project uses no heap.)
-// The kinds of a table that holds them all, in an array of eight; blank kinds stand in the places of those that it does not have.
+// The kinds of a table that holds them all, in an array of eight, as the project uses no heap; blank kinds stand in the places of
+// those that it does not have. A sheet's kinds are another definition.
 fn kinds_of(layout: Layout, t: &[u8]) -> [Shape; KIND_LIMIT]
     requires { KindsThere layout.version layout.head t.now }
     ensures { result ≡ table_kinds_of layout.version (drop kinds_at t.now) layout.head.kinds ++ replicate (8 - layout.head.kinds) blank_shape }
@@ -223,8 +223,8 @@ pub fn check_row(t: &[u8], state: usize) -> Result<(), Refusal>
     fields::check(state < states_of(t) as usize, Refusal::Row)
 }
 
-// The row of a state, in the form that 01 names, with no `Result`: the caller's own bytes, a transition for each kind, and no copy, which lie `Layout::row_at` bytes after
-// the table's first; or the empty part of the table, at its first byte, which refuses.
+// The row of a state, in the form that 01 names, with no `Result`: the caller's own bytes, a transition for each kind, and no copy,
+// which lie `Layout::row_at` bytes after the table's first; or the empty part of the table, at its first byte, which refuses.
 pub fn row(t: &[u8], state: usize) -> &[u8]
     ensures { RowPart state_limit t.entry state result }
 {

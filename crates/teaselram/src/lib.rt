@@ -273,7 +273,8 @@ pub fn teaselram_sheet_kind(sheet: &[u8], kind: u64) -> KindAnswer
     kind_says(asked.shape, asked.flags, asked.tries, first)
 }
 
-// Asks for one kind of a table, by any number, as C asks for one of a sheet; what it says of it is another definition: its size and alignment. Every other field is 0.
+// Asks for one kind of a table, by any number, as C asks for one of a sheet; what it says of it is another definition: its size and
+// alignment. Every other field is 0.
 pub fn teaselram_table_kind(table: &[u8], kind: u64) -> KindAnswer
     ensures { result ≡ table_kind_says state_limit table.now kind }
 {
