@@ -27,6 +27,10 @@ module _ (M : Steps) (s : M.State) (ks : List ℕ) (i : ℕ) where
   unfolding fault_from
   fault_end h = rw (drop_of_length-le ks h)
 
+  pub stop_end : length ks ≤ i → stop_from M s (drop i ks) ≡ 0
+  unfolding stop_from
+  stop_end h = rw (drop_of_length-le ks h)
+
   pub state_end : length ks ≤ i → state_from M s (drop i ks) ≡ s
   unfolding state_from
   state_end h = rw (drop_of_length-le ks h)
@@ -123,8 +127,12 @@ record_at (place ∷ places) others (suc i) h =
     let more : record_length * suc i ≡ record_length + record_length * i = omega arith in
     rw (more, ← drop-drop (record_length * i) record_length (record_of place ++ (records_of places ++ others))) (record_at places others i (le_of_suc-le-suc h))
 
--- Looking for a kind of m or more, from position i on: kind i is known; kind i is not.
+-- Looking for a kind of m or more, from position i on: nothing is left; kind i is known; kind i is not.
 module _ (m : ℕ) (ks : List ℕ) (i : ℕ) where
+  pub unknown_end : length ks ≤ i → unknown_at m (drop i ks) ≡ 0
+  unfolding unknown_at
+  unknown_end h = rw (drop_of_length-le ks h)
+
   pub unknown_turn : i < length ks → get_or ks i 0 < m → i + unknown_at m (drop i ks) ≡ (i + 1) + unknown_at m (drop (i + 1) ks)
   unfolding unknown_at
   unknown_turn h k = rw (rest ks i h, unknown_at, lt-ltb _ _ k) (omega arith)

@@ -3,7 +3,7 @@ use Prim.Native.Nat.{ℕ, zero, suc, ◌≤◌, ◌<◌, zero-le}
 use native.Mathlib.Decide.{le_ind, dec_lt}
 use native.Mathlib.Omega.{arith}
 use mathlib.Core.Path.{◌≡◌, refl, ap, ◌∙◌}
-use mathlib.Core.Bool.{true}
+use mathlib.Core.Bool.{true, false}
 use mathlib.Core.Logic.{inl, inr}
 use mathlib.Core.List.{List, [], ◌∷◌, ◌++◌}
 use lib.Dec.{ltb}
@@ -18,6 +18,16 @@ use Rattle.convention.specs.Explored.{Automaton, Entry, first_entry, entry, numb
 pub record Decides (X : Automaton) : Type 0 where
   pub same_eq : (a b : X.Node) → X.same a b ≡ true → a ≡ b
   pub same_refl : (a : X.Node) → X.same a a ≡ true
+
+module _ (X : Automaton) where
+  -- The place of the first entry that is the same is the number.
+  pub number_first : (l : List (Entry X)) (s : X.Node) (r : ℕ) → r ≤ length l → ((j : ℕ) → j < r → X.same (entry X l j).node s ≡ false)
+      → (r < length l → X.same (entry X l r).node s ≡ true) → r ≡ number X l s
+  unfolding number
+  number_first [] s r h others there = omega arith
+  number_first (e ∷ l) s zero h others there = rw (there (omega arith), number)
+  number_first (e ∷ l) s (suc r) h others there = rw (others 0 (omega arith), number)
+      (ap suc (number_first l s r (omega arith) (λ j o. others (suc j) (omega arith)) (λ o. there (omega arith))))
 
 module _ (X : Automaton) (D : Decides X) where
   -- At a node's number, where that is an entry's, stands the node.
@@ -87,6 +97,10 @@ module _ (X : Automaton) where
     | yes h ↦ rw (meet_known l e h) (grows_refl l)
     | no h ↦ rw (meet_new l e (omega arith)) (snoc_grows l e)
   ]
+
+  -- More entries than a limit stay more.
+  pub still_more : (limit : ℕ) (l : List (Entry X)) (e : Entry X) → limit < length l → limit < length (meet X l e)
+  still_more limit l e h = omega (arith, (meet_grows l e).longer)
 
   -- One more kind gone through.
   met_from_more : (l : List (Entry X)) (s : X.Node) (i j : ℕ) → Grows X (met_from X l s i j) (met_from X l s i (suc j))

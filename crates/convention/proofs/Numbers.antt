@@ -8,7 +8,7 @@ use native.Mathlib.Nat.{suc-ne-zero}
 use native.Mathlib.Omega.{arith}
 use lib.Dec.{leb}
 use lib.ListN.{length}
-use borrow.Author.Tests.{leb-true, le-leb}
+use borrow.Author.Tests.{leb-true, le-leb, lt-leb}
 use Rattle.convention.specs.Answers.{Reading}
 use Rattle.convention.specs.Numbers.{or_else, unless, reading, reading_no}
 use Rattle.convention.specs.Fields.{part_no, field_no}
@@ -47,6 +47,9 @@ or_keeps P (suc a) b p q = p
 pub or_first : (a b number : ℕ) → number ≡ a → (number ≡ 0 → ⊥) → number ≡ or_else a b
 or_first a b number e nz = e ∙ sym (or_here a b (rw (← e) (omega (arith, nz))))
 
+pub or_later : (a b number r : ℕ) → number ≡ a → number ≡ 0 → r ≡ b → r ≡ or_else a b
+or_later a b number r e z er = er ∙ sym (or_on a b (sym e ∙ z))
+
 -- One test: it passes exactly where it gives no number.
 pub unless_zero : (b : Bool) (n : ℕ) → 0 < n → unless b n ≡ 0 → b ≡ true
 unless_zero true n h e = refl
@@ -72,6 +75,12 @@ module _ (s : List ℕ) (at long : ℕ) (right : Bool) (wrong : ℕ) where
   pub part_pass : at + long ≤ length s → right ≡ true → part_no s at long right wrong ≡ 0
   part_pass h e = part_here h ∙ unless_true right wrong e
 
+pub byte_there : (at n : ℕ) → at < n → leb (at + 1) n ≡ true
+byte_there at n h = le-leb (at + 1) n (omega arith)
+
+pub byte_missing : (at n : ℕ) → n ≤ at → leb (at + 1) n ≡ false
+byte_missing at n h = lt-leb (at + 1) n (omega arith)
+
 module _ (s : List ℕ) (at : ℕ) (right : Bool) (wrong : ℕ) where
   pub field_zero : 0 < wrong → field_no s at right wrong ≡ 0 → (at < length s) × (right ≡ true)
   field_zero h e = let part = part_zero s at 1 right wrong h e in (omega (arith, part.0), part.1)
@@ -92,3 +101,7 @@ read_number (suc n) e = cc
 pub refused_number : (n number : ℕ) → reading n ≡ Reading.Refused number → n ≡ number
 refused_number zero number e = cc
 refused_number (suc n) number e = cc
+
+pub refused_some : (n number : ℕ) → reading n ≡ Reading.Refused number → 0 < n
+refused_some zero number e = let never : ◌≡◌ {A = ℕ} 0 1 = cc in absurd (omega arith)
+refused_some (suc n) number e = omega arith

@@ -9,7 +9,7 @@ use native.Mathlib.Omega.{arith}
 use lib.Dec.{ltb, leb, eqb}
 use lib.Bits.{bit_and, and_mask}
 use borrow.Author.Tests.{ltb-true, leb-true, le-leb, eqb-true, eq-eqb}
-use Rattle.convention.specs.Fields.{is_modulus}
+use Rattle.convention.specs.Fields.{is_width, is_modulus}
 use Rattle.convention.specs.Offsets.{IsLeast, least_offset}
 
 -- What has x's remainder and is below x + m is at most x.
@@ -79,7 +79,10 @@ passes_too : (test : ℕ → Bool) (a k : ℕ) {before seen : Bool} → (before 
 passes_too test a k {before} {seen = true} f t e = f ((and-eq-true_iff before (test k)).0 t).0 e
 passes_too test a k {before} {seen = false} f t e = passes_at test a k ((and-eq-true_iff before (test k)).0 t).1 e
 
--- So what holds of all moduli is one test that computes.
+-- So what holds of all widths, or of all moduli, is one test that computes.
+all_widths : (test : ℕ → Bool) → test 1 && test 2 && test 4 && test 8 ≡ true → (w : ℕ) → is_width w ≡ true → test w ≡ true
+all_widths test t w = passes_too test w 8 (passes_too test w 4 (passes_too test w 2 (passes_at test w 1))) t
+
 abbrev all_moduli : (ℕ → Bool) → Bool
 all_moduli test = test 1 && test 2 && test 4 && test 8 && test 16
 
@@ -87,7 +90,17 @@ all_moduli_lem : (test : ℕ → Bool) → all_moduli test ≡ true → (a : ℕ
 all_moduli_lem test t a =
     passes_too test a 16 (passes_too test a 8 (passes_too test a 4 (passes_too test a 2 (passes_at test a 1)))) t
 
--- The bounds of a modulus, or alignment.
+-- The bounds of a width and of a modulus, or alignment.
+pub width_pos : (w : ℕ) → is_width w ≡ true → 0 < w
+width_pos w e = ltb-true 0 w (all_widths (ltb 0) refl w e)
+
+pub width_most : (w : ℕ) → is_width w ≡ true → w ≤ 8
+width_most w e = leb-true w 8 (all_widths (λ w. leb w 8) refl w e)
+
+-- Which power of two a width is.
+pub width_power : (w : ℕ) → is_width w ≡ true → 2 ^ (w / 2 - w / 8) ≡ w
+width_power w e = eqb-true _ w (all_widths (λ w. eqb (2 ^ (w / 2 - w / 8)) w) refl w e)
+
 pub modulus_pos : (a : ℕ) → is_modulus a ≡ true → 0 < a
 modulus_pos a e = ltb-true 0 a (all_moduli_lem (ltb 0) refl a e)
 

@@ -21,7 +21,7 @@ use Rattle.convention.specs.Shapes.{registers_needed}
 use Rattle.convention.specs.Sheets.{starts_no, sheet_kind_length, sheet_kind_no, sheet_kind_of, sheet_kinds_no, sheet_kinds_of, sheet_kinds_length}
 use Rattle.convention.specs.Sheets.{sheet_kind_at, first_start_at, sheet_no, blank_kind, sheet_of, read_sheet, sheet_kind}
 use Rattle.convention.specs.Promised.{SheetKindRead, SheetRead}
-use Rattle.convention.proofs.Numbers.{or_zero, unless_zero, field_zero, read_number, refused_number}
+use Rattle.convention.proofs.Numbers.{or_zero, unless_zero, field_zero, read_number, refused_number, refused_some}
 use Rattle.convention.proofs.Fields.{fields_zero, after_count, after_at, after_read, filled_length, head_there, head_read, opening_head, opening_version, shape_read}
 use Rattle.convention.proofs.Positions.{shape_small}
 
@@ -235,3 +235,6 @@ module _ (s : List ℕ) (a : SheetAnswer) (ea : a ≡ read_sheet s) where
 
   pub sheet_refused : (n : ℕ) → a.reading ≡ Reading.Refused n → sheet_no s ≡ n
   sheet_refused n e = refused_number (sheet_no s) n (sheet_reading ∙ e)
+
+  pub sheet_wrong : (n : ℕ) → a.reading ≡ Reading.Refused n → 0 < n
+  sheet_wrong n e = rw (← sheet_refused n e) (refused_some (sheet_no s) n (sheet_reading ∙ e))

@@ -21,7 +21,7 @@ use Rattle.convention.specs.Sheets.{blank_shape}
 use Rattle.convention.specs.Tables.{table_kinds_no, table_kinds_of, states_of, states_no, transition_of, is_transition, transition_no, transitions_no}
 use Rattle.convention.specs.Tables.{table_no, table_of, read_table, row_no, row_given, row, start_given, row_start}
 use Rattle.convention.specs.Promised.{ShapeRead, TableRead}
-use Rattle.convention.proofs.Numbers.{or_zero, unless_zero, part_zero, read_number, refused_number}
+use Rattle.convention.proofs.Numbers.{or_zero, unless_zero, part_zero, read_number, refused_number, refused_some}
 use Rattle.convention.proofs.Fields.{fields_zero, after_count, after_at, after_read, filled_length, head_read, opening_head, opening_version, shape_read}
 use Rattle.convention.proofs.Positions.{row_inside, transition_counted}
 
@@ -176,6 +176,9 @@ module _ (limit : ℕ) (t : List ℕ) (a : TableAnswer) (ea : a ≡ read_table l
 
   pub table_refused : (n : ℕ) → a.reading ≡ Reading.Refused n → table_no limit t ≡ n
   table_refused n e = refused_number (table_no limit t) n (table_reading ∙ e)
+
+  pub table_wrong : (n : ℕ) → a.reading ≡ Reading.Refused n → 0 < n
+  table_wrong n e = rw (← table_refused n e) (refused_some (table_no limit t) n (table_reading ∙ e))
 
 -- A row that is refused is the empty part, where the table starts.
 pub row_refused : (limit : ℕ) (t : List ℕ) (state : ℕ) → (row_no limit t state ≡ 0 → ⊥) → (row limit t state ≡ []) × (row_start limit t state ≡ 0)

@@ -1,5 +1,5 @@
 -- What the functions of an exploration promise, of every automaton with numbered nodes: which entries there are, before and after.
-use Rattle.std.specs.Prelude.{ℕ, ◌+◌, ◌*◌, ◌/◌, ◌%◌, ◌≤◌, ◌<◌, ◌≡◌, List, ◌++◌, length, get_or, map, Option, Some, None}
+use Rattle.std.specs.Prelude.{ℕ, ◌+◌, ◌*◌, ◌/◌, ◌%◌, ◌≤◌, ◌<◌, ◌≡◌, ◌⊎◌, List, ◌++◌, length, get_or, map, Option, Some, None}
 use Rattle.convention.specs.Bytes.{written}
 use Rattle.convention.specs.Explored.{Numbered, numbered, Entry, entry, number, meet as met, path}
 use Rattle.convention.specs.Scanned.{Tree}
@@ -51,7 +51,21 @@ pub record MeetIs (before : List Met) (node parent kind r : ℕ) (after : List M
   pub meets : (N : Numbered) → entries_of N after ≡ met (numbered N) (entries_of N before) (entry_of N node parent kind)
   pub numbers : (N : Numbered) → r ≡ number (numbered N) (entries_of N after) node
 
--- An entry's node: whatever the entries are read as, that of entry i; none where there are no more entries.
+-- Each entry's node is one of so many.
+abbrev pub EachBelow : ℕ → List Met → Type 0
+EachBelow nodes entries = (i : ℕ) → i < length entries → (kept_at entries i).node < nodes
+
+-- Each node has no mark now, or it has the mark that it had and is the node of none of the first n entries.
+pub record Unmarked (entries : List Met) (n : ℕ) (before after : List ℕ) : Type 0 where
+  pub long : length after ≡ length before
+  pub each : (node : ℕ)
+      → (get_or after node 0 ≡ 0) ⊎ ((get_or after node 0 ≡ get_or before node 0) × ((i : ℕ) → i < n → (kept_at entries i).node ≡ node → ⊥))
+
+-- An entry's node: whatever the entries are read as, that of entry i, where there is one.
+pub record EntryIs (l : List Met) (i r : ℕ) : Type 0 where
+  pub is : i < length l → (N : Numbered) → r ≡ (entry (numbered N) (entries_of N l) i).node
+
+-- An entry's node as an option: none where there is no such entry.
 pub record NodeIs (l : List Met) (i : ℕ) (r : Option ℕ) : Type 0 where
   pub some : (node : ℕ) → r ≡ Some node → (i < length l) × ((N : Numbered) → node ≡ (entry (numbered N) (entries_of N l) i).node)
   pub none : r ≡ None → length l ≤ i

@@ -4,7 +4,7 @@
 #![tactic(auto)]
 
 ghost use Rattle.std.specs.Prelude.{◌≡◌, ◌*◌, ◌≤◌, ◌<◌, [], ◌∷◌, length};
-ghost use Rattle.exploring.specs.Stored.{pair_kinds, word_limit, start_entry, MeetAsks, MeetIs, NodeIs, PathIs};
+ghost use Rattle.exploring.specs.Stored.{pair_kinds, word_limit, start_entry, EachBelow, Unmarked, MeetAsks, MeetIs, EntryIs, NodeIs, PathIs};
 
 use std::marker::Model;
 
@@ -45,6 +45,16 @@ impl<const NODES: usize> Model for Exploration<NODES> {
     ghost invariant = { λ x. Kept NODES x.marks x.entries x.count };
 }
 
+// Takes back the marks of the nodes of these entries.
+fn unmark(marks: &mut [u16], entries: &[Entry])
+    requires { EachBelow (length marks.old) entries.now }
+    ensures { Unmarked entries.now (length entries.now) marks.old marks.new }
+{
+    for entry in entries {
+        marks[entry.node as usize] = 0;
+    }
+}
+
 impl<const NODES: usize> Exploration<NODES> {
     // Begins an exploration: node 0 is the only entry.
     pub fn start() -> Self
@@ -59,6 +69,25 @@ impl<const NODES: usize> Exploration<NODES> {
             entries: [START; NODES],
             count: 1,
         }
+    }
+
+    // Begins anew, as `start` does, in the same memory. It costs no more than the exploration before it did, whatever NODES is, since
+    // only the marks of the nodes that were met are taken back.
+    pub fn restart(&mut self)
+        requires { 0 < NODES }
+        ensures { self.new ≡ start_entry ∷ [] }
+    {
+        unmark(&mut self.marks, &self.entries[..self.count]);
+        self.marks[0] = 1;
+        self.entries[0] = START;
+        self.count = 1;
+    }
+
+    // The node of entry i. Where there is no such entry, nothing is said of it.
+    pub fn entry_node(&self, i: usize) -> usize
+        ensures { EntryIs self.now i result }
+    {
+        self.node(i).unwrap_or(0)
     }
 
     // The node of entry i, where there is one.

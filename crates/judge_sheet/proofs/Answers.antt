@@ -25,7 +25,7 @@ use Rattle.judge_sheet.proofs.Builds.{room_enough, table_bytes}
 
 -- Room for a refusal.
 pub refusal_room : (out : List ℕ) (number : ℕ) → line_room ≤ length out → number < 256 → FieldRoom out 0 (refused_line number)
-refusal_room out number room h = record { fits = omega (arith, room, refused_most 3 number (omega arith) (omega arith) (omega arith)) }
+refusal_room out number room h = record { fits = omega (arith, room, refused_most 3 number (omega arith) (omega arith)) }
 
 -- A refusal: there is nothing to judge.
 refused_prints : (input : List ℕ) (number : ℕ) → (input_limit < length input → number ≡ 1)

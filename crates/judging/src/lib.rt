@@ -23,13 +23,19 @@ use table::ReadTable;
 // The most nodes of a watched walk, two for each state. A list that is found has no more kinds.
 const NODE_LIMIT: usize = 2 * STATE_LIMIT;
 
-// Makes the first faulty list of a watched walk the best list, where there is none or it is before it.
-fn improve(table: &ReadTable<'_>, watching: Watching, best: &mut Option<List>)
+// Makes the first faulty list of a watched walk the best list, where there is none or it is before it. The exploration is lent, and
+// begins anew: one of its own for each walk would be 2,400 bytes to clear, of which a small table uses few.
+fn improve(
+    table: &ReadTable<'_>,
+    watching: Watching,
+    exploration: &mut Exploration<NODE_LIMIT>,
+    best: &mut Option<List>,
+)
     ensures { ImproveIs table.now.table table.now.bytes.now watching.watch best.old best.new }
 {
-    let mut exploration = Exploration::start();
-    if let Some(found) = search::search(table, watching, &mut exploration) {
-        lists::keep_better(best, &exploration, found);
+    exploration.restart();
+    if let Some(found) = search::search(table, watching, exploration) {
+        lists::keep_better(best, exploration, found);
     }
 }
 
@@ -39,18 +45,22 @@ fn least_list(table: &ReadTable<'_>, twice: u32) -> Option<List>
     requires { OnceBut table.now.table table.now.bytes.now twice }
     ensures { BestIs table.now.table table.now.bytes.now table.now.table.head.registers result }
 {
+    let mut exploration = Exploration::start();
     let mut best = None;
-    improve(table, Watching { watch: None }, &mut best);
+    let nothing = Watching { watch: None };
+    improve(table, nothing, &mut exploration, &mut best);
     for i in 0..table.table.head.registers {
         if !stepping::free_run(twice, Reg(i), 1) {
             let watch = Some(Reg(i));
-            improve(table, Watching { watch }, &mut best);
+            improve(table, Watching { watch }, &mut exploration, &mut best);
         }
     }
     best
 }
 
 // The first faulty list of a table, with room for it, by searching the table: the list is written only where there is one.
+// Out of line, so that the search's entries are not on the stack while the table is certified.
+#[inline(never)]
 #[tactic(auto, using(crate::proofs::Answers::judge_clean, crate::proofs::Answers::judge_room, crate::proofs::Answers::judge_fault))]
 fn judge_by_search(table: &ReadTable<'_>, twice: u32, out: &mut [u8]) -> Option<FaultyList>
     requires judge_asks { JudgeAsks table.now.table table.now.bytes.now out.old }

@@ -40,7 +40,7 @@ pub(crate) struct Found {
 }
 
 // Searches the nodes of a watched walk, from the start on, for its first faulty kind, and stops there. (The table, what is watched and
-// the exploration go side by side to two functions alone.)
+// the exploration go side by side to three functions alone.)
 pub(crate) fn search(
     table: &ReadTable<'_>,
     watching: Watching,

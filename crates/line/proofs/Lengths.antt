@@ -2,7 +2,7 @@
 use Prim.Native.Nat.{ℕ, zero, suc, ◌+◌, ◌*◌, ◌/◌, ◌^◌, ◌≤◌, ◌<◌}
 use mathlib.Core.Path.{◌≡◌, refl}
 use mathlib.Core.List.{List, [], ◌∷◌}
-use native.Mathlib.Nat.{le_refl}
+use native.Mathlib.Nat.{le_refl, pow-suc}
 use native.Mathlib.Decide.{dec_lt}
 use native.Mathlib.Omega.{arith}
 use lib.ListN.{length, length-append}
@@ -13,8 +13,7 @@ use Rattle.convention.specs.Numbers.{judging_says}
 use Rattle.convention.specs.Lists.{KindsBelow}
 use Rattle.convention.specs.Program.{decimal, kind_fields, verdict_fields, refused_line, line}
 use Rattle.line.specs.Lengths.{digits, line_most}
-use Rattle.line.proofs.Digits.{decimal_one, decimal_more, decimal_printed}
-use Rattle.std.proofs.lemmas.Fmt.{length-decimal-le}
+use Rattle.line.proofs.Digits.{decimal_one, decimal_more}
 
 -- A line and its fields, part by part.
 fault_long : (fault n : ℕ) (list : List ℕ)
@@ -36,8 +35,16 @@ tenth_digits : (n : ℕ) → 10 ≤ n → digits n ≡ digits (n / 10) + 1
 tenth_digits n h = rw (decimal_more n h, length-append)
 
 -- A number below 10 ^ d has at most d digits.
-digits_below : (d n : ℕ) → 0 < d → n < 10 ^ d → n < 2 ^ 64 → digits n ≤ d
-digits_below d n some h small = rw (← decimal_printed n small) (length-decimal-le d n some h small)
+pub digits_below : (d n : ℕ) → 0 < d → n < 10 ^ d → digits n ≤ d
+digits_below zero n some h = absurd (omega arith)
+digits_below (suc zero) n some h = rw (decimal_one n (omega arith)) (omega arith)
+digits_below (suc (suc d)) n some h =
+    elim (dec_lt n 10) [
+      | yes l ↦ rw (decimal_one n l) (omega arith)
+      | no l ↦
+          let less : n < 10 ^ suc d * 10 = rw (← pow-suc 10 (suc d)) h in
+          omega (arith, tenth_digits n (omega arith), digits_below (suc d) (n / 10) (omega arith) (omega arith))
+    ]
 
 -- A number has no more digits than a larger one.
 digits_most : (most n : ℕ) → n ≤ most → digits n ≤ digits most
@@ -63,15 +70,15 @@ kinds_long [] below = refl
 kinds_long (k ∷ list) below = rw (length-append, kinds_long list below.1, decimal_one k below.0) (omega arith)
 
 -- So the line of a refusal, and that of a table, have at most so many bytes.
-pub refused_most : (d number : ℕ) → 0 < d → number < 10 ^ d → number < 2 ^ 64 → length (refused_line number) ≤ 7 + (1 + d) + 1
-refused_most d number some h small = omega (arith, refused_long number, digits_below d number some h small)
+pub refused_most : (d number : ℕ) → 0 < d → number < 10 ^ d → length (refused_line number) ≤ 7 + (1 + d) + 1
+refused_most d number some h = omega (arith, refused_long number, digits_below d number some h)
 
 verdict_most : (most : ℕ) (verdict : JudgingAnswer) (list : List ℕ) → (judging_says verdict).fault < 10 → (judging_says verdict).count ≤ most
     → KindsBelow 10 list → length list ≤ most → length (verdict_fields verdict list) ≤ 6 + 2 + (1 + digits most) + 2 * most
 unfolding verdict_fields
 verdict_most most Clean list f c below few = omega arith
 verdict_most most (Fault fault n) list f c below few =
-    omega (arith, fault_long fault n list, digits_below 1 fault (omega arith) f (omega arith), digits_most most n c, kinds_long list below)
+    omega (arith, fault_long fault n list, digits_below 1 fault (omega arith) f, digits_most most n c, kinds_long list below)
 verdict_most most (JudgingAnswer.Refused number) list f c below few = omega arith
 
 pub line_most_lem : (limit most n len m : ℕ) (verdict : JudgingAnswer) (list : List ℕ) → n ≤ limit → m < 10
@@ -79,4 +86,4 @@ pub line_most_lem : (limit most n len m : ℕ) (verdict : JudgingAnswer) (list :
     → length (line (Built n len) m verdict list) ≤ line_most limit most
 line_most_lem limit most n len m verdict list hn hm f c below few =
     omega
-    (arith, built_long n len m verdict list, digits_most limit n hn, digits_below 1 m (omega arith) hm (omega arith), verdict_most most verdict list f c below few)
+    (arith, built_long n len m verdict list, digits_most limit n hn, digits_below 1 m (omega arith) hm, verdict_most most verdict list f c below few)

@@ -22,7 +22,7 @@ use convention::{
 
 // The most arguments of a list that counts as short. To clear the memory for the records of any list would take longer
 // than to place a short one.
-const SHORT_LIST: usize = 32;
+pub const SHORT_LIST: usize = 32;
 
 // How long the memory for the records of a short list is.
 const SHORT_RECORDS: usize = RECORD_LENGTH * SHORT_LIST;

@@ -1,6 +1,8 @@
 -- Going through a table's kinds and its transitions: what is left answers the whole, and each that is right lies within the bytes.
-use Prim.Native.Nat.{ℕ, ◌+◌, ◌-◌, ◌≤◌, ◌<◌}
-use mathlib.Core.Path.{◌≡◌, refl, sym}
+use Prim.Native.Nat.{ℕ, zero, suc, ◌+◌, ◌-◌, ◌*◌, ◌/◌, ◌≤◌, ◌<◌}
+use mathlib.Core.Path.{◌≡◌, refl, sym, ap, ◌∙◌}
+use mathlib.Core.Bool.{Bool, true, false, ◌&&◌}
+use native.Mathlib.Nat.{add-zero, zero-add, mul-zero}
 use mathlib.Core.List.{List}
 use native.Mathlib.Omega.{arith}
 use lib.Dec.{lit<}
@@ -12,8 +14,9 @@ use Rattle.convention.specs.Layout.{shape_length, transition_length}
 use Rattle.convention.specs.Tables.{table_kinds_no, transition_of, is_transition, transition_no, transitions_no}
 use Rattle.convention.specs.declared.Refusal.{Refusal}
 use Rattle.convention.specs.Results.{refusal_number}
-use Rattle.convention.proofs.Numbers.{part_zero}
-use Rattle.convention.proofs.Results.{refusal_some}
+use Rattle.convention.specs.Numbers.{or_else, unless}
+use Rattle.convention.proofs.Numbers.{part_zero, or_assoc}
+use Rattle.convention.proofs.Results.{refusal_some, passed, refused}
 use Rattle.convention.proofs.InTurn.{Things, InTurn, turn_right, turn_wrong, turn_end}
 use Rattle.convention.proofs.Slices.{rest_of}
 use Rattle.convention.proofs.Fields.{shape_there}
@@ -75,3 +78,46 @@ transitions_run_lem v h states t = record {
   turns = record { none = λ at. refl; more = λ at left. refl };
   there = λ at l e. (part_zero t at (transition_length v) (is_transition h states (transition_of v t at)) 7 (lit< tt) e).0;
 }
+
+-- How many transitions are gone through with no question between them.
+abbrev pub batch : ℕ
+batch = 4
+
+-- After so many batches one more is there, and then the others.
+pub batch_next : (done count : ℕ) → done < count / batch → batch + (count - batch * (done + 1)) ≡ count - batch * done
+batch_next done count h = omega arith
+
+-- Some are gone through with no question between them: whether none was wrong so far, and those that are left, give the number of all.
+module _ (X : Things) (turns : InTurn X) (whole at done count : ℕ) where
+  pub gathered_turn : (right here : Bool) (long : ℕ) → or_else (unless right 7) (X.all at (count - done)) ≡ whole → done < count
+      → unless here 7 ≡ X.one at → long ≡ X.long at → or_else (unless (right && here) 7) (X.all (at + long) (count - (done + 1))) ≡ whole
+  gathered_turn false here long inv h e el = inv
+  gathered_turn true here long inv h e el =
+      let next : count - done ≡ suc (count - (done + 1)) = omega arith in
+      rw (e, el) (sym (turns.more at (count - (done + 1))) ∙ rw next at inv)
+
+  pub gathered_done : (right : Bool) → or_else (unless right 7) (X.all at (count - done)) ≡ whole → count ≤ done → unless right 7 ≡ whole
+  gathered_done false inv h = inv
+  gathered_done true inv h = turn_end X turns whole at (count - done) inv (omega arith)
+
+-- Things of w bytes each: the number of the first so many, and then that of the others.
+module _ (X : Things) (turns : InTurn X) (w : ℕ) (long : (at : ℕ) → X.long at ≡ w) where
+  two_batches : (at first others : ℕ) → X.all at (first + others) ≡ or_else (X.all at first) (X.all (at + w * first) others)
+  two_batches at zero others = rw (turns.none at, mul-zero, add-zero, zero-add) refl
+  two_batches at (suc first) others =
+      let sum : suc first + others ≡ suc (first + others) = omega arith in
+      let place : at + w * suc first ≡ at + w + w * first = omega arith in
+      rw (sum, turns.more at (first + others), turns.more at first, long at, place)
+      (ap (or_else (X.one at)) (two_batches (at + w) first others)
+      ∙ sym (or_assoc (X.one at) (X.all (at + w) first) (X.all (at + w + w * first) others)))
+
+  -- So many that are right leave the number to the others; such of which one is wrong give it.
+  module _ (whole at first others left : ℕ) (sum : first + others ≡ left) (inv : X.all at left ≡ whole) where
+    both : or_else (X.all at first) (X.all (at + w * first) others) ≡ whole
+    both = sym (two_batches at first others) ∙ rw (← sum) at inv
+
+    pub batch_right : (step : ℕ) → step ≡ w * first → 0 ≡ X.all at first → X.all (at + step) others ≡ whole
+    batch_right step here e = rw here (sym (passed _ _ e) ∙ both)
+
+    pub batch_wrong : (refusal : Refusal) → refusal_number refusal ≡ X.all at first → refusal_number refusal ≡ whole
+    batch_wrong refusal e = refused refusal _ _ e ∙ both

@@ -1,5 +1,5 @@
 -- The transitions that are there in a table's bytes: how many, going through them, and the number of all where others are missing.
-use Prim.Native.Nat.{ℕ, zero, suc, ◌+◌, ◌-◌, ◌*◌, ◌≤◌, ◌<◌}
+use Prim.Native.Nat.{ℕ, zero, suc, ◌+◌, ◌*◌, ◌≤◌, ◌<◌}
 use mathlib.Core.Path.{◌≡◌, refl, ap, sym, ◌∙◌}
 use mathlib.Core.List.{List}
 use native.Mathlib.Omega.{arith}
@@ -13,10 +13,12 @@ use Rattle.convention.specs.Tables.{transition_no, transitions_no}
 use Rattle.convention.proofs.Numbers.{or_assoc}
 use Rattle.table.specs.Within.{TransitionsThere}
 
--- Those after the next one are there.
-module _ (n at long done count : ℕ) (all : at + long * (count - done) ≤ n) (h : done < count) where
-  pub rest_there : (step : ℕ) → step ≡ long → at + step + long * (count - (done + 1)) ≤ n
-  rest_there step e = let next : suc (count - (done + 1)) ≡ count - done = omega arith in omega (arith, rw (← next) at all)
+-- Those after the next so many are there.
+pub others_there : (n at long first others left step : ℕ) → first + others ≡ left → at + long * left ≤ n → step ≡ long * first
+    → at + step + long * others ≤ n
+others_there n at long first others left step sum all here =
+    let apart : long * (first + others) ≡ long * first + long * others = omega arith in
+    rw here (omega (arith, apart, rw (← sum) at all))
 
 -- The number of all is that of those that are there, and then 3 where others are missing.
 module _ (v : ℕ) (h : Head) (states : ℕ) (t : List ℕ) where

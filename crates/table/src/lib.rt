@@ -5,7 +5,7 @@
 mod reading;
 
 ghost use Rattle.std.specs.Prelude.{◌≡◌, ◌++◌, ◌+◌, ◌-◌, ◌*◌, ◌≤◌, length, drop, replicate};
-ghost use Rattle.convention.specs.Numbers.{state_limit, or_else};
+ghost use Rattle.convention.specs.Numbers.{state_limit, or_else, unless};
 ghost use Rattle.convention.specs.Results.{number_of, table_answer};
 ghost use Rattle.convention.specs.Layout.{kinds_at, rows_at, transition_length, transition_at, table_length};
 ghost use Rattle.convention.specs.Fields.{version_of, head_of, left_over_no};
@@ -18,6 +18,10 @@ pub use crate::reading::ReadTable;
 use convention::{Head, KIND_LIMIT, Refusal, STATE_LIMIT, Shape, Table, Transition};
 use fields::layout::{A_AT, B_AT, FORM_AT, KINDS_AT, Layout, NEXT_AT};
 use fields::{layout, shapes};
+
+// How many transitions are gone through before it is asked whether one of them was wrong: `batch`. A table that is wrong early is
+// refused early, and these few, of sixteen bytes, are checked side by side.
+const BATCH: usize = 4;
 
 // Checks the kinds, 5 or 3 for the first that is wrong or missing, in a table that is at least as long as its head. Each kind is
 // parsed from the part of the table that starts at its first byte. Why the sheet reader has a loop of its own is said there.
@@ -84,16 +88,14 @@ fn read_transition(version: u8, t: &[u8], at: usize) -> Transition
 }
 
 // Whether a transition has the values that a table of this head and so many states allows. By the form's number, since a byte may
-// say any.
+// say any. It asks for each form and never branches by it: forms come in no order that a processor could guess.
 fn is_transition(head: Head, states: u16, x: Transition) -> bool
     ensures { result ≡ is_transition head states x }
 {
-    match x.form {
-        0 => (x.a == 0) & (x.b == 0) & (x.next == 0),
-        1 => (x.a as u16 + x.b as u16 <= head.registers as u16) & (x.next < states),
-        2 => (x.a < head.modulus) & (x.next < states),
-        _ => false,
-    }
+    let none = (x.form == 0) & (x.a == 0) & (x.b == 0) & (x.next == 0);
+    let registers = (x.form == 1) & (x.a as u16 + x.b as u16 <= head.registers as u16);
+    let stack = (x.form == 2) & (x.a < head.modulus);
+    none | ((registers | stack) & (x.next < states))
 }
 
 // The rows of a table of so many states, which may be missing or wrong; `bytes` are the whole table's.
@@ -106,28 +108,43 @@ struct TableRows<'t> {
 }
 
 impl<'t> TableRows<'t> {
-    // Checks the transition whose bytes, which are there, begin at byte `at`: 7 where they are wrong.
-    #[tactic(auto, using(convention::proofs::Results::tests), unfolding(convention::specs::Tables::transition_no))]
-    fn check_transition(self, at: usize) -> Result<(), Refusal>
+    // Whether the transition whose bytes, which are there, begin at byte `at`, is right.
+    #[tactic(auto, unfolding(convention::specs::Tables::transition_no))]
+    fn is_right(self, at: usize) -> bool
         requires { at + transition_length self.layout.version ≤ length self.bytes.now }
-        ensures { number_of result ≡ transition_no self.entry.layout.version self.entry.layout.head self.entry.states self.entry.bytes.now at }
+        ensures { unless result 7 ≡ transition_no self.entry.layout.version self.entry.layout.head self.entry.states self.entry.bytes.now at }
     {
         let x = read_transition(self.layout.version, self.bytes, at);
-        let right = is_transition(self.layout.head, self.states, x);
+        is_transition(self.layout.head, self.states, x)
+    }
+
+    // Checks `count` transitions one after the other, from byte `first` on, whose bytes are all there. It goes through all of them,
+    // also past one that is wrong, with no branch by what they are.
+    fn check_batch(self, first: usize, count: usize) -> Result<(), Refusal>
+        requires { first + transition_length self.layout.version * count ≤ length self.bytes.now }
+        ensures { number_of result ≡ transitions_no self.entry.layout.version self.entry.layout.head self.entry.states self.entry.bytes.now first count }
+    {
+        let mut at = first;
+        let mut right = true;
+        for _ in 0..count {
+            right &= self.is_right(at);
+            at += layout::transition_length(self.layout.version);
+        }
         fields::check(right, Refusal::Transition)
     }
 
-    // Checks `count` transitions one after the other, from byte `first` on, whose bytes are all there.
+    // Checks `count` transitions one after the other, from byte `first` on, whose bytes are all there, a batch at a time, and those
+    // that are left over as a batch of their own. It goes no further than the batch of the first that is wrong.
     fn check_there(self, first: usize, count: usize) -> Result<(), Refusal>
         requires { first + transition_length self.layout.version * count ≤ length self.bytes.now }
         ensures { number_of result ≡ transitions_no self.entry.layout.version self.entry.layout.head self.entry.states self.entry.bytes.now first count }
     {
         let mut at = first;
-        for _ in 0..count {
-            self.check_transition(at)?;
-            at += layout::transition_length(self.layout.version);
+        for _ in 0..count / BATCH {
+            self.check_batch(at, BATCH)?;
+            at += layout::transition_length(self.layout.version) * BATCH;
         }
-        Ok(())
+        self.check_batch(at, count % BATCH)
     }
 
     // How many of `count` transitions from byte `first` on, which is no further than the table's end, have all their bytes there.

@@ -6,7 +6,7 @@ use convention::{Refusal, Shape, Table, Transition};
 use fields::layout::Layout;
 
 // A table that was read, with its bytes: its rows stay there, in the caller's.
-#[derive(Drop)]
+#[derive(Clone, Copy)]
 pub struct ReadTable<'t> {
     pub table: Table,
     pub bytes: &'t [u8],

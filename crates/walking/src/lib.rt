@@ -69,9 +69,11 @@ impl Placer for TablePlacer<'_> {
 
     #[tactic(auto, using(crate::proofs::Lists::standing_begin, crate::proofs::Lists::next_inside, crate::proofs::Lists::next_room))]
     fn walk(&self, list: &[u8], records: &mut [u8]) -> Result<Offset, Unplaced> {
+        // The walk has a copy of the table: through the reference its head was read anew after each record.
+        let table = self.0;
         let mut s = begin();
         for (i, &k) in list.iter().enumerate() {
-            let step = Step::of(&self.0, s.state, k);
+            let step = Step::of(&table, s.state, k);
             let at = RECORD_LENGTH * i;
             s = argument(step, s, records, at).map_err(|fault| Unplaced::Faulty(i, fault))?;
         }

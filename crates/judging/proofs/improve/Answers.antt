@@ -4,7 +4,7 @@ use Rattle.judging.proofs.Finding.{find_searches, find_there, find_room, find_so
 use Rattle.judging.proofs.improve.Goals as goal
 
 pub search-requires : goal.search-requires
-search-requires c = rw c.start-exploration.ensures (find_searches _ _ _ c.args.table.now.read)
+search-requires c = rw c.restart.ensures (find_searches _ _ _ c.args.table.now.read)
 
 pub keep_better-requires-clause-there : goal.keep_better-requires-clause-there
 keep_better-requires-clause-there c = find_there _ _ _ c.args.table.now.read _ _ c.in-Some.ensures _ refl
